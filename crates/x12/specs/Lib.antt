@@ -1,0 +1,10 @@
+pub mod Lists
+pub mod Class
+pub mod Header
+pub mod Segments
+pub mod Elements
+pub mod Causes
+pub mod Rank
+pub mod Checks
+pub mod Met
+pub mod Find
