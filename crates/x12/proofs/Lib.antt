@@ -1,7 +1,11 @@
 pub mod Bytes
 pub mod Follows
+pub mod Hands
 pub mod Headers
+pub mod Judged
+pub mod Meets
 pub mod Picks
+pub mod Rank
 pub mod Splits
 pub mod Table
 pub mod Turns

@@ -6,13 +6,15 @@ use mathlib.Core.List.{List, [], _∷_}
 use native.Mathlib.Omega.{arith}
 use lib.ListN.{length, take, drop}
 use Rattle.std.proofs.shelf.Edits.{length-between}
+use Rattle.std.proofs.shelf.Lists.{drop-drop, take-take}
+use Rattle.std.proofs.shelf.Parts.{between-is}
 use Rattle.std.proofs.shelf.Tests.{cases-lt}
 use Rattle.std.specs.declared.option.Option.{Option}
 use Rattle.std.specs.declared.option.Option.the-variants.{Some, None}
 use Rattle.std.specs.shelf.Lists.{between}
 use Rattle.x12.specs.Lists.{nth}
 use Rattle.x12.specs.Segments.{Part, partsOf}
-use Rattle.x12.specs.Elements.{partAt}
+use Rattle.x12.specs.Elements.{partAt, PartOf}
 use Rattle.x12.specs.Find.{Finds}
 use Rattle.x12.proofs.Splits.{found-at, last-at}
 
@@ -57,3 +59,34 @@ nth-later x xs ys (suc (suc k)) e lt = let z : suc k ≡ suc (suc k) - 1 = omega
 
 pub nth-none : {A : Type 0} (ys : List A) (k : ℕ) → ys ≡ [] → nth ys k ≡ None
 nth-none ys k e = ap (λ l. nth l k) e
+
+-- a part of a whole, and a part of that part
+pub part-of : (xs : List ℕ) (p at e : ℕ) → at ≤ e → e ≤ length xs → PartOf xs p (p + at) (between at e xs)
+part-of xs p at e lo hi =
+    let n : length (between at e xs) ≡ e - at = length-between xs at e hi in
+    let a : at ≡ (p + at) - p = omega arith in
+    let b : e ≡ (p + at) - p + length (between at e xs) = omega arith in
+    record {
+      low = omega arith;
+      inside = omega arith;
+      part = (λ i. between (a i) (b i) xs);
+    }
+
+between-between : (xs : List ℕ) (s t a e : ℕ) → e ≤ t - s → between a e (between s t xs) ≡ between (s + a) (s + e) xs
+between-between xs s t a e le =
+    let d : e - a ≡ (s + e) - (s + a) = omega arith in
+    between-is (between s t xs) a e ∙ ap (drop a) (take-take e (t - s) (drop s xs) le) ∙ sym (between-is (drop s xs) a e)
+    ∙ ap (take (e - a)) (drop-drop a s xs) ∙ ap (λ n. take n (drop (s + a) xs)) d
+
+pub part-within : (I whole bytes : List ℕ) (at place : ℕ) → at + length whole ≤ length I → whole ≡ between at (at + length whole) I → PartOf whole at place bytes
+  → (place + length bytes ≤ length I) × (bytes ≡ between place (place + length bytes) I)
+part-within I whole bytes at place w p q =
+    let lo = q .low in
+    let hi = q .inside in
+    let a : at + (place - at) ≡ place = omega arith in
+    let b : at + (place - at + length bytes) ≡ place + length bytes = omega arith in
+    ( omega arith
+    , q .part
+      ∙ ap (λ (l : List ℕ). between (place - at) (place - at + length bytes) l) p
+      ∙ between-between I at (at + length whole) (place - at) (place - at + length bytes) (omega arith)
+      ∙ (λ i. between (a i) (b i) I))

@@ -2,7 +2,7 @@
 use mathlib.Core.Path.{_≡_}
 use mathlib.Core.List.{List, [], _∷_}
 use mathlib.Core.Logic.{_≢_}
-use Prim.Native.Nat.{ℕ, zero, suc, _+_, _≤_}
+use Prim.Native.Nat.{ℕ, zero, suc, _+_, _-_, _≤_}
 use lib.ListN.{length}
 use Rattle.std.specs.declared.option.Option.{Option}
 use Rattle.std.specs.declared.option.Option.the-variants.{Some, None}
@@ -44,6 +44,12 @@ placeOf I k n = elementAt (separatorOf I) (nth (segmentsOf I) k) n .0
 -- a segment's mark is its name with its first element
 abbrev pub markOf : List ℕ → ℕ → List ℕ × List ℕ
 markOf I k = (elementOf I k 0, elementOf I k 1)
+
+-- these bytes at this place are a part of a whole that stands at `at`
+pub record PartOf (whole : List ℕ) (at place : ℕ) (bytes : List ℕ) : Type 0 where
+  pub low : at ≤ place
+  pub inside : place + length bytes ≤ at + length whole
+  pub part : bytes ≡ between (place - at) (place - at + length bytes) whole
 
 -- The answer of a call for element n of segment k, with this place and these bytes: the element is filled, and it is that very part
 -- of an interchange that meets none of 1 to 3.

@@ -2,8 +2,9 @@
 use mathlib.Core.Path.{_≡_}
 use mathlib.Core.List.{List}
 use mathlib.Core.Logic.{_⊎_}
-use mathlib.Core.Bool.{false}
+use mathlib.Core.Bool.{false, cond}
 use Prim.Native.Nat.{ℕ, _<_, _≤_}
+use lib.Dec.{leb}
 use lib.ListN.{length}
 use Rattle.std.specs.shelf.Lists.{All, Has}
 use Rattle.x12.specs.declared.faults.Fault.{Fault}
@@ -46,6 +47,10 @@ pub data Fails (I : List ℕ) : ℕ → ℕ → ℕ → Type 0 where
   -- a bad name
   wrong-name : {k : ℕ} (s : Segment) (p : Part) → IsSegment I k s → IsElement I s 0 p → (Name (p .1) → ⊥) → Fails I 5 k 0
 
+-- where a fault stands: the header begins at byte 0, which is the place of 1 to 3; any other fault stands at its element
+abbrev pub placeFor : List ℕ → ℕ → ℕ → ℕ → ℕ
+placeFor I n k e = cond (leb n 3) 0 (placeOf I k e)
+
 -- a fault that the interchange meets: its number, layer, segment, element and place
 abbrev pub Met : List ℕ → Fault → Type 0
-Met I f = (n k e : ℕ) × Fails I n k e × (f ≡ fault n k e (placeOf I k e))
+Met I f = (n k e : ℕ) × Fails I n k e × (f ≡ fault n k e (placeFor I n k e))

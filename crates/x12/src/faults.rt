@@ -1,3 +1,6 @@
+ghost use mathlib.Core.Path.{_≡_};
+ghost use Rattle.x12.specs.Causes.{causeOf};
+
 // What a refusal says: its number, its layer, the segment and the element that it stands at, and the byte place.
 #[derive(Clone, Copy, Debug, PartialEq, Eq)]
 pub struct Fault {
@@ -21,4 +24,19 @@ pub enum ByteFault {
     WrongByte { segment: usize, element: usize, place: usize },
     // No terminator, or a bad name.
     WrongSegment { segment: usize, place: usize },
+}
+
+impl ByteFault {
+    // The number, layer, segment, element and place of the fault.
+    pub fn fault(self) -> Fault
+        ensures { λ r. ⌜ r ≡ causeOf self ⌝ }
+    {
+        match self {
+            ByteFault::WrongLength => Fault { number: 1, layer: 1, segment: 0, element: 0, place: 0 },
+            ByteFault::WrongHeader => Fault { number: 2, layer: 1, segment: 1, element: 0, place: 0 },
+            ByteFault::WrongDelimiter => Fault { number: 3, layer: 1, segment: 1, element: 0, place: 0 },
+            ByteFault::WrongByte { segment, element, place } => Fault { number: 4, layer: 1, segment, element, place },
+            ByteFault::WrongSegment { segment, place } => Fault { number: 5, layer: 1, segment, element: 0, place },
+        }
+    }
 }

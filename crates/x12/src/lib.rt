@@ -6,4 +6,5 @@ pub mod faults;
 mod find;
 pub mod header;
 pub mod parts;
+pub mod scans;
 pub mod segments;

@@ -5,7 +5,7 @@ use native.Mathlib.Omega.{arith}
 use lib.ListN.{length}
 use Rattle.std.specs.shelf.Lists.{between}
 use Rattle.x12.specs.Segments.{Part}
-use Rattle.x12.proofs.Picks.{part-behind, no-part, part-here, between-none, between-some}
+use Rattle.x12.proofs.Picks.{part-behind, no-part, part-here, between-none, between-some, part-of}
 use Rattle.x12.proofs.elements.element_in.Needs as need
 
 pub returns-then-end-bytes : need.returns-then-end-bytes
@@ -33,4 +33,5 @@ returns c =
     let h = c .find-from-end-2 .ensures in
     let lo = h .low in
     ( between-some s (c .loop-left .at) (c .find-from-end-2 .result) (omega arith) (h .within)
-    , c .loop-left .inv .1 ∙ part-here s (c .args .separator) (c .args .segment .place) (c .args .segment .place + length s) (c .loop-left .at) (c .find-from-end-2 .result) (c .loop-left .left) h (omega arith))
+    , c .loop-left .inv .1 ∙ part-here s (c .args .separator) (c .args .segment .place) (c .args .segment .place + length s) (c .loop-left .at) (c .find-from-end-2 .result) (c .loop-left .left) h (omega arith)
+    , part-of s (c .args .segment .place) (c .loop-left .at) (c .find-from-end-2 .result) lo (h .within))

@@ -1,0 +1,20 @@
+// Judges an interchange from standard input and prints one line.
+use std::io;
+use std::io::Read;
+use x12::scans::scan;
+
+// One byte more than an interchange may have is enough to tell that it is too long.
+const MOST: u64 = 65_537;
+
+fn main(rt: LibcRuntime) -> io::Result<()> {
+    let mut interchange = Vec::new(rt.alloc());
+    let mut input = rt.stdin().take(MOST);
+    input.read_to_end(&mut interchange)?;
+    match scan(&interchange) {
+        Ok(count) => println!(rt, "READ {count} segments; bytes and segments are sound; structure, elements and totals are not judged yet"),
+        Err(fault) => {
+            let f = fault.fault();
+            println!(rt, "REFUSED {} {} {} {} {}", f.number, f.layer, f.segment, f.element, f.place)
+        }
+    }
+}
