@@ -7,5 +7,6 @@ pub mod Meets
 pub mod Picks
 pub mod Rank
 pub mod Splits
+pub mod Splitting
 pub mod Table
 pub mod Turns

@@ -28,7 +28,7 @@ use Rattle.x12.specs.Rank.{phase, Before, First, None-of}
 use Rattle.x12.specs.Checks.{headerCheck, badByte, nameByte, goodName, isISA16, partCheck, segmentCheck, bytesCheck}
 use Rattle.x12.specs.Met.{IsSegment, IsElement, Name, Unfit, Fails, wrong-length, wrong-header, wrong-delimiter, wrong-byte, no-terminator, wrong-name, placeFor, Met}
 use Rattle.x12.proofs.Headers.{headed-means, headed-from, sized-means, sized-from, delimited-means, delimited-from}
-use Rattle.x12.proofs.Rank.{moved}
+use Rattle.x12.proofs.Rank.{moved, same-rank}
 use Rattle.x12.proofs.Splits.{parts-head}
 use Rattle.x12.proofs.Judged.{Or, Judged, Earlier, Anything, Any, Never, judged-then, judged-as, judged-test, judged-none, item-from, each-judged}
 
@@ -323,3 +323,14 @@ module _ (I : List ℕ) where
   pub body-passed : (separator component : ℕ) → separator ≡ separatorOf I → component ≡ componentOf I → (u : Unit {0}) → headerCheck I ≡ Ok u → (v : Unit {0})
     → each (segmentCheck separator component) 1 (segmentsOf I) ≡ Ok v → None-of (Met I)
   body-passed separator component p q u h v e = subst (Judged (Met I) (λ n. n ≡ length (segmentsOf I))) (answered separator component p q u h (Ok v) e) bytes-judged .0
+
+  -- faults of equal rank are one
+  pub one-first : (f g : Fault) → First (Met I) f → First (Met I) g → f ≡ g
+  one-first f g a b =
+      let r = same-rank f g (a .1 g (b .0)) (b .1 f (a .0)) in
+      let m = a .0 in
+      let w = b .0 in
+      let n : m .0 ≡ w .0 = sym (ap (λ (h : Fault). h .number) (m .4)) ∙ (r .0 ∙ ap (λ (h : Fault). h .number) (w .4)) in
+      let k : m .1 ≡ w .1 = sym (ap (λ (h : Fault). h .segment) (m .4)) ∙ (r .1 ∙ ap (λ (h : Fault). h .segment) (w .4)) in
+      let e : m .2 ≡ w .2 = sym (ap (λ (h : Fault). h .element) (m .4)) ∙ (r .3 ∙ ap (λ (h : Fault). h .element) (w .4)) in
+      m .4 ∙ ((λ i. fault (n i) (k i) (e i) (placeFor I (n i) (k i) (e i))) ∙ sym (w .4))

@@ -8,3 +8,4 @@ pub mod Rank
 pub mod Checks
 pub mod Met
 pub mod Find
+pub mod Laws

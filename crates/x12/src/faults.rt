@@ -12,7 +12,7 @@ pub struct Fault {
 }
 
 // The faults of the byte layer.
-#[derive(Clone, Copy, Debug, PartialEq, Eq)]
+#[derive(Clone, Copy)]
 pub enum ByteFault {
     // The length lies outside 106 to 65,536.
     WrongLength,

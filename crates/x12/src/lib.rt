@@ -5,6 +5,7 @@ pub mod elements;
 pub mod faults;
 mod find;
 pub mod header;
+pub mod laws;
 pub mod parts;
 pub mod scans;
 pub mod segments;
