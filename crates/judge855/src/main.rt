@@ -11,10 +11,17 @@ fn main(rt: LibcRuntime) -> io::Result<()> {
     let mut input = rt.stdin().take(MOST);
     input.read_to_end(&mut interchange)?;
     match scan(&interchange) {
-        Ok(count) => println!(rt, "READ {count} segments; bytes and segments are sound; structure, elements and totals are not judged yet"),
+        Ok(count) => println!(
+            rt,
+            "READ {count} segments; bytes and segments are sound; structure, elements and totals are not judged yet"
+        ),
         Err(fault) => {
             let f = fault.fault();
-            println!(rt, "REFUSED {} {} {} {} {}", f.number, f.layer, f.segment, f.element, f.place)
+            println!(
+                rt,
+                "REFUSED {} {} {} {} {}",
+                f.number, f.layer, f.segment, f.element, f.place
+            )
         }
     }
 }

@@ -30,7 +30,7 @@ some-push f (y ∷ xs) x = ap (λ (t : Bool). f y || t) (some-push f xs x) ∙ s
 
 -- one more byte at the end of a part
 pub some-more : (f : ℕ → Bool) (xs : List ℕ) (from i : ℕ) → from ≤ i → i < length xs
-  → some f (between from (i + 1) xs) ≡ (some f (between from i xs) || f (getD xs i 0))
+    → some f (between from (i + 1) xs) ≡ (some f (between from i xs) || f (getD xs i 0))
 some-more f xs from i h l = ap (some f) (between-more xs from i 0 h l) ∙ some-push f (between from i xs) (getD xs i 0)
 
 -- a name has two bytes, or three
@@ -49,5 +49,5 @@ name-of-three (a ∷ b ∷ c ∷ d ∷ v) h = absurd (omega arith)
 
 -- a part's check, once it is known whether some byte of it is bad
 pub check-known : (component k : ℕ) (closed : Bool) (e place : ℕ) (v : List ℕ) (bad : Bool) (r : Result (Unit {0}) Fault) → bad ≡ some (badByte component) v
-  → partJudged bad k closed e (place, v) ≡ r → partCheck component k closed e (place, v) ≡ r
+    → partJudged bad k closed e (place, v) ≡ r → partCheck component k closed e (place, v) ≡ r
 check-known component k closed e place v bad r b h = ap (λ (t : Bool). partJudged t k closed e (place, v)) (sym b) ∙ h

@@ -71,7 +71,7 @@ passes-shifted xs at r h =
       within = omega (arith, length-drop at xs);
       before = λ k _ lt. ap isBreak (getD-drop at xs k 0) ∙ h .before (at + k) (omega arith) (omega arith);
       stops = λ lt z. h .stops (omega (arith, length-drop at xs))
-        (let e : at + (r - at) ≡ r = omega arith in ap isBreak (sym (getD-drop at xs (r - at) 0 ∙ ap (λ (n : ℕ). getD xs n 0) e)) ∙ z);
+          (let e : at + (r - at) ≡ r = omega arith in ap isBreak (sym (getD-drop at xs (r - at) 0 ∙ ap (λ (n : ℕ). getD xs n 0) e)) ∙ z);
     }
 
 -- skipping the line breaks at a place changes no segment
@@ -101,7 +101,7 @@ plain-at xs at h lt z = h (omega (arith, length-drop at xs)) (ap isBreak (sym (g
 
 -- a segment with its terminator, and those after it
 closed-at : (xs : List ℕ) (b at e : ℕ) → (at < length xs → isBreak (getD xs at 0) ≡ true → ⊥) → Finds xs at b e → e < length xs
-  → segmentsFrom b at xs ≡ segment (at, between at e xs) true ∷ segmentsFrom b (e + 1) xs
+    → segmentsFrom b at xs ≡ segment (at, between at e xs) true ∷ segmentsFrom b (e + 1) xs
 closed-at xs b at e plain h lt =
     let t = parts-head (drop (e + 1) xs) b (e + 1) in
     ap (λ (n : ℕ). segments (partsOf b n (drop at xs))) (sym (zero-add at))
@@ -119,7 +119,7 @@ filled-take (x ∷ xs) (suc n) a h = refl
 
 -- what is left without a terminator
 open-at : (xs : List ℕ) (b at e : ℕ) → (at < length xs → isBreak (getD xs at 0) ≡ true → ⊥) → Finds xs at b e → length xs ≤ e → at < length xs
-  → segmentsFrom b at xs ≡ segment (at, between at e xs) false ∷ []
+    → segmentsFrom b at xs ≡ segment (at, between at e xs) false ∷ []
 open-at xs b at e plain h le lt =
     ap (λ (n : ℕ). segments (partsOf b n (drop at xs))) (sym (zero-add at))
     ∙ ap segments (last-at xs b 0 at e h le)
@@ -129,13 +129,13 @@ open-at xs b at e plain h le lt =
 
 -- the segment at a place, with its terminator or without
 pub segment-at : (xs : List ℕ) (b at e : ℕ) → (at < length xs → isBreak (getD xs at 0) ≡ true → ⊥) → Finds xs at b e → at < length xs
-  → segmentsFrom b at xs ≡ segment (at, between at e xs) (ltb e (length xs)) ∷ segmentsFrom b (e + 1) xs
+    → segmentsFrom b at xs ≡ segment (at, between at e xs) (ltb e (length xs)) ∷ segmentsFrom b (e + 1) xs
 segment-at xs b at e plain h lt =
     elim (cases-lt e (length xs)) [
-      inl l ↦ closed-at xs b at e plain h l ∙ ap (λ (t : Bool). segment (at, between at e xs) t ∷ segmentsFrom b (e + 1) xs) (sym (lt-ltb e (length xs) l))
-    | inr g ↦ open-at xs b at e plain h g lt
-        ∙ ap (λ (t : Bool). segment (at, between at e xs) t ∷ []) (sym (le-ltb e (length xs) g))
-        ∙ ap (λ (l : List Segment). segment (at, between at e xs) (ltb e (length xs)) ∷ l) (sym (none-at xs b (e + 1) (omega arith)))
+      | inl l ↦ closed-at xs b at e plain h l ∙ ap (λ (t : Bool). segment (at, between at e xs) t ∷ segmentsFrom b (e + 1) xs) (sym (lt-ltb e (length xs) l))
+      | inr g ↦ open-at xs b at e plain h g lt
+          ∙ ap (λ (t : Bool). segment (at, between at e xs) t ∷ []) (sym (le-ltb e (length xs) g))
+          ∙ ap (λ (l : List Segment). segment (at, between at e xs) (ltb e (length xs)) ∷ l) (sym (none-at xs b (e + 1) (omega arith)))
     ]
 
 -- a delimiter is no line break
@@ -144,7 +144,7 @@ class-five b h = grind (arith, tells)
 
 -- the segment after the line breaks at a place
 pub first-from : (xs : List ℕ) (b at r e : ℕ) → 32 < b → Passes xs at r → r < length xs → Finds xs r b e
-  → FirstFrom xs b at r (between r e xs) (ltb e (length xs))
+    → FirstFrom xs b at r (between r e xs) (ltb e (length xs))
 first-from xs b at r e big p lt f =
     let lo = f .low in
     let hi = f .within in
@@ -155,5 +155,5 @@ first-from xs b at r e big p lt f =
       inside = omega arith;
       part = ap (λ (k : ℕ). between r k xs) (sym m);
       next = skip-at xs b at r big p ∙ segment-at xs b r e (p .stops) f lt
-        ∙ ap (λ (k : ℕ). segment (r, between r e xs) (ltb e (length xs)) ∷ segmentsFrom b (k + 1) xs) (sym m);
+          ∙ ap (λ (k : ℕ). segment (r, between r e xs) (ltb e (length xs)) ∷ segmentsFrom b (k + 1) xs) (sym m);
     }

@@ -27,15 +27,15 @@ no-zeroth I k n h = no-segment I k n (ap (nth (segmentsOf I)) h ∙ at-zero (seg
 
 -- what a segment hands out, the interchange does
 pub handed-out : (I : List ℕ) (k n separator : ℕ) (s : Segment) → Sound I → separator ≡ separatorOf I → nth (segmentsOf I) k ≡ Some s
-  → s .place + length (s .bytes) ≤ length I → s .bytes ≡ between (s .place) (s .place + length (s .bytes)) I
-  → {E : Type 0} (place : E → ℕ) (bytes : E → List ℕ) (r : Option E)
-  → Cases r (elementIn separator s n .1 ≡ []) (λ e. (bytes e ≢ []) × (elementIn separator s n ≡ (place e, bytes e)) × PartOf (s .bytes) (s .place) (place e) (bytes e))
-  → Cases r (Sound I → elementOf I k n ≡ []) (λ e. HandedOut I k n (place e) (bytes e))
+    → s .place + length (s .bytes) ≤ length I → s .bytes ≡ between (s .place) (s .place + length (s .bytes)) I
+    → {E : Type 0} (place : E → ℕ) (bytes : E → List ℕ) (r : Option E)
+    → Cases r (elementIn separator s n .1 ≡ []) (λ e. (bytes e ≢ []) × (elementIn separator s n ≡ (place e, bytes e)) × PartOf (s .bytes) (s .place) (place e) (bytes e))
+    → Cases r (Sound I → elementOf I k n ≡ []) (λ e. HandedOut I k n (place e) (bytes e))
 handed-out I k n separator s sound same h inside part place bytes None c =
     λ _. ap (λ (o : Option Segment). elementAt (separatorOf I) o n .1) h ∙ ap (λ (b : ℕ). elementIn b s n .1) (sym same) ∙ c
 handed-out I k n separator s sound same h inside part place bytes (Some e) c =
     let is : elementAt (separatorOf I) (nth (segmentsOf I) k) n ≡ (place e, bytes e) =
-        ap (λ (o : Option Segment). elementAt (separatorOf I) o n) h ∙ ap (λ (b : ℕ). elementIn b s n) (sym same) ∙ c .1 in
+    ap (λ (o : Option Segment). elementAt (separatorOf I) o n) h ∙ ap (λ (b : ℕ). elementIn b s n) (sym same) ∙ c .1 in
     let w = part-within I (s .bytes) (bytes e) (s .place) (place e) inside part (c .2) in
     record {
       sound = sound;

@@ -25,9 +25,9 @@ pub below-not : (f : ℕ → Bool) (n k : ℕ) → k < n → f k ≡ false → b
 below-not f zero k l h = absurd (omega arith)
 below-not f (suc n) k l h =
     elim (cases-order k n) [
-      inl e ↦ and-left (f n) (below f n) (ap f (sym e) ∙ h)
-    | inr (inl lt) ↦ and-right (f n) (below f n) (below-not f n k lt h)
-    | inr (inr gt) ↦ absurd (omega arith)
+      | inl e ↦ and-left (f n) (below f n) (ap f (sym e) ∙ h)
+      | inr (inl lt) ↦ and-right (f n) (below f n) (below-not f n k lt h)
+      | inr (inr gt) ↦ absurd (omega arith)
     ]
 
 pub laid-out : (I : List ℕ) → ((k : ℕ) → k < 105 → placedAt I k ≡ true) → true ≡ laidOut I
@@ -44,9 +44,9 @@ below-each f zero h k l = absurd (omega arith)
 below-each f (suc n) h k l =
     let p = and-parts (f n) (below f n) h in
     elim (cases-order k n) [
-      inl e ↦ ap f e ∙ p .0
-    | inr (inl lt) ↦ below-each f n (p .1) k lt
-    | inr (inr gt) ↦ absurd (omega arith)
+      | inl e ↦ ap f e ∙ p .0
+      | inr (inl lt) ↦ below-each f n (p .1) k lt
+      | inr (inr gt) ↦ absurd (omega arith)
     ]
 
 placed-each : (I : List ℕ) → laidOut I ≡ true → (k : ℕ) → k < 105 → placedAt I k ≡ true
@@ -109,11 +109,11 @@ is-name (a ∷ b ∷ c ∷ xs) h =
 separator-at : (I : List ℕ) → laidOut I ≡ true → (i : ℕ) → i ≤ 105 → eqb (getD I i 0) (separatorOf I) ≡ among i separatorPlaces
 separator-at I h i l =
     elim (cases-lt i 105) [
-      inl lt ↦ separator-there I h i lt
-    | inr ge ↦
-        let e : i ≡ 105 = omega arith in
-        let ne : eqb (terminatorOf I) (separatorOf I) ≡ false = ne-eqb (terminatorOf I) (separatorOf I) (λ q. terminator-apart I h 3 (lit< tt) (sym q)) in
-        ap (λ (n : ℕ). eqb (getD I n 0) (separatorOf I)) e ∙ ne ∙ ap (λ (n : ℕ). among n separatorPlaces) (sym e)
+      | inl lt ↦ separator-there I h i lt
+      | inr ge ↦
+          let e : i ≡ 105 = omega arith in
+          let ne : eqb (terminatorOf I) (separatorOf I) ≡ false = ne-eqb (terminatorOf I) (separatorOf I) (λ q. terminator-apart I h 3 (lit< tt) (sym q)) in
+          ap (λ (n : ℕ). eqb (getD I n 0) (separatorOf I)) e ∙ ne ∙ ap (λ (n : ℕ). among n separatorPlaces) (sym e)
     ]
 
 pub headed-means : (I : List ℕ) → headed I ≡ true → Headed I

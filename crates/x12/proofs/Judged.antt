@@ -46,7 +46,7 @@ judged-as P Q J (Err f) u v j = (u f (j .0), (λ g q. j .1 g (v g q)))
 
 -- a test for one fault, and then another check
 pub judged-test : {A : Type 0} (P Q : Fault → Type 0) (J : A → Type 0) (b : Bool) (f : Fault) (r : Result A Fault) → (b ≡ true → P f) → ((g : Fault) → P g → (b ≡ true) × (g ≡ f)) → Earlier P Q
-  → Judged Q J r → Judged (Or P Q) J (cond b (Err f) r)
+    → Judged Q J r → Judged (Or P Q) J (cond b (Err f) r)
 judged-test P Q J true f r y n o j =
     (inl (y refl), (λ g x. elim x [ inl p ↦ subst (λ (h : Fault). Before f h) (sym (n g p .1)) (lex-refl (key f)) | inr q ↦ o f g (y refl) q ]))
 judged-test P Q J false f (Ok a) y n o j = ((λ g x. elim x [ inl p ↦ absurd (true≢false (sym (n g p .0))) | inr q ↦ j .0 g q ]), j .1)
@@ -75,12 +75,12 @@ module _ {X : Type 0} (P : ℕ → X → Fault → Type 0) (check : ℕ → X �
   each-judged [] e = ((λ f x. x .2), tt)
   each-judged (x ∷ xs) e =
       judged-as (Or (P e x) (Any P (suc e) xs)) (Any P e (x ∷ xs)) Anything (each check e (x ∷ xs))
-        (λ f o. elim o [ inl p ↦ (e, x, inl (refl, refl), p) | inr s ↦ (s .0, s .1, inr (s .2), s .3) ])
-        (λ f s. apart f (s .0) (s .1) (s .2) (s .3))
-        (judged-then (P e x) (Any P (suc e) xs) Anything Anything (check e x) (λ u. each check (suc e) xs)
-          (λ f g p s. rising e (s .0) x (s .1) f g (item-from (suc e) xs (s .0) (s .1) (s .2)) p (s .3))
-          (one e x)
-          (λ u n j. each-judged xs (suc e)))
+      (λ f o. elim o [ inl p ↦ (e, x, inl (refl, refl), p) | inr s ↦ (s .0, s .1, inr (s .2), s .3) ])
+      (λ f s. apart f (s .0) (s .1) (s .2) (s .3))
+      (judged-then (P e x) (Any P (suc e) xs) Anything Anything (check e x) (λ u. each check (suc e) xs)
+      (λ f g p s. rising e (s .0) x (s .1) f g (item-from (suc e) xs (s .0) (s .1) (s .2)) p (s .3))
+      (one e x)
+      (λ u n j. each-judged xs (suc e)))
     where
       apart : (f : Fault) (n : ℕ) (y : X) → ((n ≡ e) × (y ≡ x)) ⊎ Item (suc e) xs n y → P n y f → Or (P e x) (Any P (suc e) xs) f
       apart f n y (inl i) p = inl (subst (λ (z : ℕ × X). P (z .0) (z .1) f) (λ j. (i .0 j, i .1 j)) p)

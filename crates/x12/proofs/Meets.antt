@@ -56,6 +56,7 @@ name-byte-decides b = (means, from)
         one-or-two zero a z = absurd (omega arith)
         one-or-two (suc zero) a z = inl refl
         one-or-two (suc (suc n)) a z = inr (omega arith)
+
     from : (classOf b ≡ 1) ⊎ (classOf b ≡ 2) → nameByte b ≡ true
     from (inl e) = ap (within 1 2) e
     from (inr e) = ap (within 1 2) e
@@ -65,11 +66,13 @@ name-decides v = (means, from)
   where
     bytes : Decides (every nameByte v) (All (λ b. (classOf b ≡ 1) ⊎ (classOf b ≡ 2)) v)
     bytes = decides-by-and nameByte (λ b. (classOf b ≡ 1) ⊎ (classOf b ≡ 2)) (every nameByte) name-byte-decides refl (λ _ _. refl) v
+
     means : goodName v ≡ true → Name v
     means h =
         let p = and-parts (within 2 3 (length v)) (every nameByte v) h in
         let q = and-parts (leb 2 (length v)) (leb (length v) 3) (p .0) in
         (leb-true 2 (length v) (q .0), leb-true (length v) 3 (q .1), bytes .0 (p .1))
+
     from : Name v → goodName v ≡ true
     from n = and-from (within 2 3 (length v)) (every nameByte v) (and-from (leb 2 (length v)) (leb (length v) 3) (le-leb 2 (length v) (n .0)) (le-leb (length v) 3 (n .1))) (bytes .1 (n .2))
 
@@ -123,8 +126,8 @@ module _ (I : List ℕ) where
   ill-test : (s : Segment) (v : List ℕ) → (not (s .closed) || not (goodName v)) ≡ true → (s .closed ≡ false) ⊎ (Name v → ⊥)
   ill-test s v h =
       elim (or-cases (not (s .closed)) (not (goodName v)) h) [
-        inl c ↦ inl (not-true (s .closed) c)
-      | inr n ↦ inr (λ w. true≢false (sym (name-decides v .1 w) ∙ not-true (goodName v) n))
+        | inl c ↦ inl (not-true (s .closed) c)
+        | inr n ↦ inr (λ w. true≢false (sym (name-decides v .1 w) ∙ not-true (goodName v) n))
       ]
 
   test-ill : (s : Segment) (v : List ℕ) → (s .closed ≡ false) ⊎ (Name v → ⊥) → (not (s .closed) || not (goodName v)) ≡ true
@@ -138,19 +141,21 @@ module _ (I : List ℕ) where
   part-judged : (k : ℕ) (s : Segment) (e : ℕ) (p : Part) → Judged (InPart k s e p) Anything (partCheck (componentOf I) k (s .closed) e p)
   part-judged k s e p =
       judged-test (Bad k s e p) (Or (Ill k s e p) Never) Anything bad (fault 4 k e (p .0)) _
-        (λ t. let q = and-parts (not (isISA16 k e)) (some (badByte (componentOf I)) (p .1)) t in (not-isa16 k e (q .0), some-bad (componentOf I) (p .1) (q .1), refl))
-        (λ g b. (and-from (not (isISA16 k e)) (some (badByte (componentOf I)) (p .1)) (isa16-not k e (b .0)) (bad-some (componentOf I) (p .1) (b .1 .0) (b .1 .1) (b .1 .2)), b .2))
-        bad-first
-        (judged-test (Ill k s e p) Never Anything ill (fault 5 k 0 (p .0)) (Ok tt)
-          (λ t. let q = and-parts (eqb e 0) (not (s .closed) || not (goodName (p .1))) t in (eqb-true e 0 (q .0), ill-test s (p .1) (q .1), refl))
-          (λ g b. (and-from (eqb e 0) (not (s .closed) || not (goodName (p .1))) (eq-eqb e 0 (b .0)) (test-ill s (p .1) (b .1)), b .2))
-          (λ f g a b. elim b [ ])
-          (judged-none Anything tt tt))
+      (λ t. let q = and-parts (not (isISA16 k e)) (some (badByte (componentOf I)) (p .1)) t in (not-isa16 k e (q .0), some-bad (componentOf I) (p .1) (q .1), refl))
+      (λ g b. (and-from (not (isISA16 k e)) (some (badByte (componentOf I)) (p .1)) (isa16-not k e (b .0)) (bad-some (componentOf I) (p .1) (b .1 .0) (b .1 .1) (b .1 .2)), b .2))
+      bad-first
+      (judged-test (Ill k s e p) Never Anything ill (fault 5 k 0 (p .0)) (Ok tt)
+      (λ t. let q = and-parts (eqb e 0) (not (s .closed) || not (goodName (p .1))) t in (eqb-true e 0 (q .0), ill-test s (p .1) (q .1), refl))
+      (λ g b. (and-from (eqb e 0) (not (s .closed) || not (goodName (p .1))) (eq-eqb e 0 (b .0)) (test-ill s (p .1) (b .1)), b .2))
+      (λ f g a b. elim b [ ])
+      (judged-none Anything tt tt))
     where
       bad : Bool
       bad = not (isISA16 k e) && some (badByte (componentOf I)) (p .1)
+
       ill : Bool
       ill = eqb e 0 && (not (s .closed) || not (goodName (p .1)))
+
       bad-first : Earlier (Bad k s e p) (Or (Ill k s e p) Never)
       bad-first f g a (inr b) = elim b [ ]
       bad-first f g a (inl b) = moved f g (fault 4 k e (p .0)) (fault 5 k 0 (p .0)) (a .2) (b .2) (inr (refl, inr (refl, inr (refl, inr (b .0, inl (lit< tt))))))
@@ -212,27 +217,29 @@ module _ (I : List ℕ) where
   head-judged : Judged Head Anything (headerCheck I)
   head-judged = subst (Judged Head Anything) (sym as-tests)
       (judged-test _ _ Anything (not (sized I)) (fault 1 0 0 0) _
-        (λ t. (not-so (sized I) (Sized I) (sized-from I) t, refl))
-        (λ g a. (so-not (sized I) (Sized I) (sized-means I) (a .0), a .1))
-        first-one
-        (judged-test _ _ Anything (not (headed I)) (fault 2 1 0 0) _
-          (λ t. (not-so (headed I) (Headed I) (headed-from I) t, refl))
-          (λ g a. (so-not (headed I) (Headed I) (headed-means I) (a .0), a .1))
-          then-two
-          (judged-test _ Never Anything (not (delimited I)) (fault 3 1 0 0) (Ok tt)
-            (λ t. (not-so (delimited I) (Delimited I) (delimited-from I) t, refl))
-            (λ g a. (so-not (delimited I) (Delimited I) (delimited-means I) (a .0), a .1))
-            (λ f g a b. elim b [ ])
-            (judged-none Anything tt tt))))
+      (λ t. (not-so (sized I) (Sized I) (sized-from I) t, refl))
+      (λ g a. (so-not (sized I) (Sized I) (sized-means I) (a .0), a .1))
+      first-one
+      (judged-test _ _ Anything (not (headed I)) (fault 2 1 0 0) _
+      (λ t. (not-so (headed I) (Headed I) (headed-from I) t, refl))
+      (λ g a. (so-not (headed I) (Headed I) (headed-means I) (a .0), a .1))
+      then-two
+      (judged-test _ Never Anything (not (delimited I)) (fault 3 1 0 0) (Ok tt)
+      (λ t. (not-so (delimited I) (Delimited I) (delimited-from I) t, refl))
+      (λ g a. (so-not (delimited I) (Delimited I) (delimited-means I) (a .0), a .1))
+      (λ f g a b. elim b [ ])
+      (judged-none Anything tt tt))))
     where
       as-tests : headerCheck I ≡ cond (not (sized I)) (Err (fault 1 0 0 0)) (cond (not (headed I)) (Err (fault 2 1 0 0)) (cond (not (delimited I)) (Err (fault 3 1 0 0)) (Ok tt)))
       as-tests =
           turned (sized I) _ _
           ∙ ap (cond (not (sized I)) (Err (fault 1 0 0 0))) (turned (headed I) _ _ ∙ ap (cond (not (headed I)) (Err (fault 2 1 0 0))) (turned (delimited I) _ _))
+
       first-one : (f g : Fault) → (Sized I → ⊥) × (f ≡ fault 1 0 0 0) → Or (λ f. (Headed I → ⊥) × (f ≡ fault 2 1 0 0)) (Or (λ f. (Delimited I → ⊥) × (f ≡ fault 3 1 0 0)) Never) g → Before f g
       first-one f g a (inl b) = moved f g (fault 1 0 0 0) (fault 2 1 0 0) (a .1) (b .1) (inr (refl, inl (lit< tt)))
       first-one f g a (inr (inl b)) = moved f g (fault 1 0 0 0) (fault 3 1 0 0) (a .1) (b .1) (inr (refl, inl (lit< tt)))
       first-one f g a (inr (inr b)) = elim b [ ]
+
       then-two : (f g : Fault) → (Headed I → ⊥) × (f ≡ fault 2 1 0 0) → Or (λ f. (Delimited I → ⊥) × (f ≡ fault 3 1 0 0)) Never g → Before f g
       then-two f g a (inl b) = moved f g (fault 2 1 0 0) (fault 3 1 0 0) (a .1) (b .1) (inr (refl, inr (refl, inr (refl, inr (refl, inl (lit< tt))))))
       then-two f g a (inr b) = elim b [ ]
@@ -257,11 +264,11 @@ module _ (I : List ℕ) where
       let o = of-body g b in
       let l : 3 < o .2 .0 = o .2 .3 in
       moved f g (fault 2 1 0 0) (fault (o .2 .0) (o .0) (o .2 .1) (o .2 .2)) (a .1) (o .2 .6)
-        (behind 2 (o .2 .0) (o .0) (o .2 .1) (o .2 .2) (omega arith) (sym (o .2 .4)) (sym (o .2 .5)) (o .1))
+      (behind 2 (o .2 .0) (o .0) (o .2 .1) (o .2 .2) (omega arith) (sym (o .2 .4)) (sym (o .2 .5)) (o .1))
   head-first f g (inr (inr (inl a))) b =
       let o = of-body g b in
       moved f g (fault 3 1 0 0) (fault (o .2 .0) (o .0) (o .2 .1) (o .2 .2)) (a .1) (o .2 .6)
-        (behind 3 (o .2 .0) (o .0) (o .2 .1) (o .2 .2) (o .2 .3) (sym (o .2 .4)) (sym (o .2 .5)) (o .1))
+      (behind 3 (o .2 .0) (o .0) (o .2 .1) (o .2 .2) (o .2 .3) (sym (o .2 .4)) (sym (o .2 .5)) (o .1))
   head-first f g (inr (inr (inr a))) b = elim a [ ]
 
   -- the words of the rule book, and what the checks look for
@@ -296,7 +303,7 @@ module _ (I : List ℕ) where
   bytes-judged =
       judged-as (Or Head InBody) (Met I) (λ n. n ≡ length (segmentsOf I)) (bytesCheck I) to-met (λ f m. of-fails f (m .3) (m .4))
       (judged-then Head InBody Anything (λ n. n ≡ length (segmentsOf I)) (headerCheck I) _ head-first head-judged
-        (λ u n j. counted (each (segmentCheck (separatorOf I) (componentOf I)) 1 (segmentsOf I)) body-judged))
+      (λ u n j. counted (each (segmentCheck (separatorOf I) (componentOf I)) 1 (segmentsOf I)) body-judged))
     where
       counted : (r : Result (Unit {0}) Fault) → Judged InBody Anything r → Judged InBody (λ n. n ≡ length (segmentsOf I)) (andThen r (λ v. Ok (length (segmentsOf I))))
       counted (Ok u) j = (j .0, refl)
@@ -306,22 +313,22 @@ module _ (I : List ℕ) where
   pub header-refused : (f : Fault) → headerCheck I ≡ Err f → First (Met I) f
   header-refused f h =
       subst (Judged (Met I) (λ n. n ≡ length (segmentsOf I)))
-        (ap (λ (r : Result (Unit {0}) Fault). andThen r (λ u. andThen (each (segmentCheck (separatorOf I) (componentOf I)) 1 (segmentsOf I)) (λ v. Ok (length (segmentsOf I))))) h)
-        bytes-judged
+      (ap (λ (r : Result (Unit {0}) Fault). andThen r (λ u. andThen (each (segmentCheck (separatorOf I) (componentOf I)) 1 (segmentsOf I)) (λ v. Ok (length (segmentsOf I))))) h)
+      bytes-judged
 
   answered : (separator component : ℕ) → separator ≡ separatorOf I → component ≡ componentOf I → (u : Unit {0}) → headerCheck I ≡ Ok u → (r : Result (Unit {0}) Fault)
-    → each (segmentCheck separator component) 1 (segmentsOf I) ≡ r → bytesCheck I ≡ andThen r (λ v. Ok (length (segmentsOf I)))
+      → each (segmentCheck separator component) 1 (segmentsOf I) ≡ r → bytesCheck I ≡ andThen r (λ v. Ok (length (segmentsOf I)))
   answered separator component p q u h r e =
       ap (λ (t : Result (Unit {0}) Fault). andThen t (λ u. andThen (each (segmentCheck (separatorOf I) (componentOf I)) 1 (segmentsOf I)) (λ v. Ok (length (segmentsOf I))))) h
       ∙ (λ i. andThen (each (segmentCheck (sym p i) (sym q i)) 1 (segmentsOf I)) (λ v. Ok (length (segmentsOf I))))
       ∙ ap (λ (t : Result (Unit {0}) Fault). andThen t (λ v. Ok (length (segmentsOf I)))) e
 
   pub body-refused : (separator component : ℕ) → separator ≡ separatorOf I → component ≡ componentOf I → (u : Unit {0}) → headerCheck I ≡ Ok u → (f : Fault)
-    → each (segmentCheck separator component) 1 (segmentsOf I) ≡ Err f → First (Met I) f
+      → each (segmentCheck separator component) 1 (segmentsOf I) ≡ Err f → First (Met I) f
   body-refused separator component p q u h f e = subst (Judged (Met I) (λ n. n ≡ length (segmentsOf I))) (answered separator component p q u h (Err f) e) bytes-judged
 
   pub body-passed : (separator component : ℕ) → separator ≡ separatorOf I → component ≡ componentOf I → (u : Unit {0}) → headerCheck I ≡ Ok u → (v : Unit {0})
-    → each (segmentCheck separator component) 1 (segmentsOf I) ≡ Ok v → None-of (Met I)
+      → each (segmentCheck separator component) 1 (segmentsOf I) ≡ Ok v → None-of (Met I)
   body-passed separator component p q u h v e = subst (Judged (Met I) (λ n. n ≡ length (segmentsOf I))) (answered separator component p q u h (Ok v) e) bytes-judged .0
 
   -- faults of equal rank are one

@@ -28,7 +28,7 @@ first-part stop q qs ps k e z = ap (partAt stop ps) z ∙ ap (λ (l : List Part)
 module _ (xs : List ℕ) (mark p stop : ℕ) where
   -- the part behind the next mark, or none
   pub part-behind : (at e k : ℕ) → Finds xs at mark e → e < length xs → 0 < k
-    → partAt stop (partsOf mark (p + at) (drop at xs)) k ≡ partAt stop (partsOf mark (p + (e + 1)) (drop (e + 1) xs)) (k - 1)
+      → partAt stop (partsOf mark (p + at) (drop at xs)) k ≡ partAt stop (partsOf mark (p + (e + 1)) (drop (e + 1) xs)) (k - 1)
   part-behind at e k h lt pos = next-part stop _ _ _ k (found-at xs mark p at e h lt) pos
 
   pub no-part : (at e k : ℕ) → Finds xs at mark e → length xs ≤ e → 0 < k → partAt stop (partsOf mark (p + at) (drop at xs)) k ≡ (stop, [])
@@ -38,8 +38,8 @@ module _ (xs : List ℕ) (mark p stop : ℕ) where
   pub part-here : (at e k : ℕ) → Finds xs at mark e → k ≡ 0 → partAt stop (partsOf mark (p + at) (drop at xs)) k ≡ (p + at, between at e xs)
   part-here at e k h z =
       elim (cases-lt e (length xs)) [
-        inl lt ↦ first-part stop _ _ _ k (found-at xs mark p at e h lt) z
-      | inr le ↦ first-part stop _ _ _ k (last-at xs mark p at e h le) z
+        | inl lt ↦ first-part stop _ _ _ k (found-at xs mark p at e h lt) z
+        | inr le ↦ first-part stop _ _ _ k (last-at xs mark p at e h le) z
       ]
 
 pub between-none : (xs : List ℕ) (r : ℕ) → between r r xs ≡ []
@@ -79,14 +79,15 @@ between-between xs s t a e le =
     ∙ ap (take (e - a)) (drop-drop a s xs) ∙ ap (λ n. take n (drop (s + a) xs)) d
 
 pub part-within : (I whole bytes : List ℕ) (at place : ℕ) → at + length whole ≤ length I → whole ≡ between at (at + length whole) I → PartOf whole at place bytes
-  → (place + length bytes ≤ length I) × (bytes ≡ between place (place + length bytes) I)
+    → (place + length bytes ≤ length I) × (bytes ≡ between place (place + length bytes) I)
 part-within I whole bytes at place w p q =
     let lo = q .low in
     let hi = q .inside in
     let a : at + (place - at) ≡ place = omega arith in
-    let b : at + (place - at + length bytes) ≡ place + length bytes = omega arith in
-    ( omega arith
-    , q .part
-      ∙ ap (λ (l : List ℕ). between (place - at) (place - at + length bytes) l) p
-      ∙ between-between I at (at + length whole) (place - at) (place - at + length bytes) (omega arith)
-      ∙ (λ i. between (a i) (b i) I))
+    let b : at + (place - at + length bytes) ≡ place + length bytes = omega arith in (
+      omega arith,
+      q .part
+          ∙ ap (λ (l : List ℕ). between (place - at) (place - at + length bytes) l) p
+          ∙ between-between I at (at + length whole) (place - at) (place - at + length bytes) (omega arith)
+          ∙ (λ i. between (a i) (b i) I),
+    )

@@ -76,6 +76,6 @@ parts-head [] b p = ([], [], refl)
 parts-head (x ∷ xs) b p = go (eqb x b) (parts-head xs b (suc p))
   where
     go : (t : Bool) → (v : List ℕ) × (rest : List Part) × (partsOf b (suc p) xs ≡ (suc p, v) ∷ rest)
-      → (v : List ℕ) × (rest : List Part) × (cond t ((p, []) ∷ partsOf b (suc p) xs) (push p x (partsOf b (suc p) xs)) ≡ (p, v) ∷ rest)
+        → (v : List ℕ) × (rest : List Part) × (cond t ((p, []) ∷ partsOf b (suc p) xs) (push p x (partsOf b (suc p) xs)) ≡ (p, v) ∷ rest)
     go true h = ([], partsOf b (suc p) xs, refl)
     go false h = (x ∷ h .0, h .1, ap (push p x) (h .2))

@@ -60,7 +60,7 @@ parts-marked mark at [] rest h =
 parts-marked mark at (x ∷ v) rest h =
     let e : suc (suc at + length v) ≡ suc (at + suc (length v)) = omega arith in
     cond-false (eqb x mark) ((at, []) ∷ partsOf mark (suc at) (v ++ mark ∷ rest)) (push at x (partsOf mark (suc at) (v ++ mark ∷ rest)))
-      (ne-eqb x mark (λ q. h (subst (Has (x ∷ v)) q (has-head x v))))
+    (ne-eqb x mark (λ q. h (subst (Has (x ∷ v)) q (has-head x v))))
     ∙ ap (push at x) (parts-marked mark (suc at) v rest (λ t. h (has-tail x mark v t)))
     ∙ ap (λ (p : ℕ). (at, x ∷ v) ∷ partsOf mark p rest) e
 

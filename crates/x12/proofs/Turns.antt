@@ -29,13 +29,13 @@ module _ {F : Type 0} (check : ℕ → Part → Result (Unit {0}) F) (xs : List 
   pub part-stop : (k at e : ℕ) (f : F) → Finds xs at mark e → check k (p + at, between at e xs) ≡ Err f → each check k (partsOf mark (p + at) (drop at xs)) ≡ Err f
   part-stop k at e f h r =
       elim (cases-lt e (length xs)) [
-        inl lt ↦ each-stop check k _ _ _ f (found-at xs mark p at e h lt) r
-      | inr le ↦ each-stop check k _ _ _ f (last-at xs mark p at e h le) r
+        | inl lt ↦ each-stop check k _ _ _ f (found-at xs mark p at e h lt) r
+        | inr le ↦ each-stop check k _ _ _ f (last-at xs mark p at e h le) r
       ]
 
   pub part-last : (k at e : ℕ) (u : Unit {0}) → Finds xs at mark e → length xs ≤ e → check k (p + at, between at e xs) ≡ Ok u → each check k (partsOf mark (p + at) (drop at xs)) ≡ Ok tt
   part-last k at e u h le r = each-on check k _ _ _ u (last-at xs mark p at e h le) r
 
   pub part-on : (k at e : ℕ) (u : Unit {0}) → Finds xs at mark e → e < length xs → check k (p + at, between at e xs) ≡ Ok u
-    → each check k (partsOf mark (p + at) (drop at xs)) ≡ each check (k + 1) (partsOf mark (p + (e + 1)) (drop (e + 1) xs))
+      → each check k (partsOf mark (p + at) (drop at xs)) ≡ each check (k + 1) (partsOf mark (p + (e + 1)) (drop (e + 1) xs))
   part-on k at e u h lt r = each-on check k _ _ _ u (found-at xs mark p at e h lt) r

@@ -41,7 +41,7 @@ pub data Fails (I : List ℕ) : ℕ → ℕ → ℕ → Type 0 where
   wrong-delimiter : (Delimited I → ⊥) → Fails I 3 1 0
   -- a byte of class 0 or a component separator, outside ISA16
   wrong-byte : {k e : ℕ} (s : Segment) (p : Part) (b : ℕ) → IsSegment I k s → IsElement I s e p → ((k ≡ 1) × (e ≡ 16) → ⊥)
-    → Has (p .1) b → Unfit I b → Fails I 4 k e
+      → Has (p .1) b → Unfit I b → Fails I 4 k e
   -- no terminator
   no-terminator : {k : ℕ} (s : Segment) → IsSegment I k s → s .closed ≡ false → Fails I 5 k 0
   -- a bad name

@@ -62,13 +62,24 @@ fn is_name(v: &[u8]) -> bool
 }
 
 // What element `number` of segment `segment` is refused for: a bad byte, else a bad name or one in a segment with no terminator.
-fn check_part(part: &[u8], bad: bool, closed: bool, segment: usize, number: usize, place: usize) -> Result<(), ByteFault>
+fn check_part(
+    part: &[u8],
+    bad: bool,
+    closed: bool,
+    segment: usize,
+    number: usize,
+    place: usize,
+) -> Result<(), ByteFault>
     ensures { λ r. ⌜ Cases r
         (λ u. partJudged bad segment closed number (place, now (part .entry)) ≡ Ok u)
         (λ f. partJudged bad segment closed number (place, now (part .entry)) ≡ Err (causeOf f)) ⌝ }
 {
     if bad && !(segment == 1 && number == 16) {
-        return Err(ByteFault::WrongByte { segment, element: number, place });
+        return Err(ByteFault::WrongByte {
+            segment,
+            element: number,
+            place,
+        });
     }
     if number == 0 && (!closed || !is_name(part)) {
         return Err(ByteFault::WrongSegment { segment, place });
@@ -77,7 +88,11 @@ fn check_part(part: &[u8], bad: bool, closed: bool, segment: usize, number: usiz
 }
 
 // The first byte fault of a segment with its number, by element and number: its elements in order, each in one pass.
-pub fn check_segment(delimiters: Delimiters, number: usize, segment: Segment<'_>) -> Result<(), ByteFault>
+pub fn check_segment(
+    delimiters: Delimiters,
+    number: usize,
+    segment: Segment<'_>,
+) -> Result<(), ByteFault>
     requires { ⌜ segment .place + length (now (segment .bytes)) < 2 ^ 64 ⌝ }
     ensures { λ r. ⌜ Cases r
         (λ u. segmentCheck (delimiters .separator) (delimiters .component) number (asSegment (segment .entry .place, now (segment .entry .bytes)) (segment .entry .closed)) ≡ Ok u)
@@ -88,7 +103,14 @@ pub fn check_segment(delimiters: Delimiters, number: usize, segment: Segment<'_>
     let mut element = 0;
     loop {
         let Scanned { end, bad } = scan_part(bytes, at, delimiters.separator, delimiters.component);
-        check_part(&bytes[at..end], bad, segment.closed, number, element, segment.place + at)?;
+        check_part(
+            &bytes[at..end],
+            bad,
+            segment.closed,
+            number,
+            element,
+            segment.place + at,
+        )?;
         if end == bytes.len() {
             return Ok(());
         }

@@ -19,8 +19,8 @@ pub fn element_in<'a>(separator: u8, segment: Segment<'a>, number: usize) -> Opt
     ensures { λ r. ⌜ Cases r
         (elementIn separator (asSegment (segment .entry .place, now (segment .entry .bytes)) (segment .entry .closed)) number .1 ≡ [])
         (λ e. (now (e .bytes) ≢ [])
-            × (elementIn separator (asSegment (segment .entry .place, now (segment .entry .bytes)) (segment .entry .closed)) number ≡ (e .place, now (e .bytes)))
-            × PartOf (now (segment .entry .bytes)) (segment .entry .place) (e .place) (now (e .bytes))) ⌝ }
+        × (elementIn separator (asSegment (segment .entry .place, now (segment .entry .bytes)) (segment .entry .closed)) number ≡ (e .place, now (e .bytes)))
+        × PartOf (now (segment .entry .bytes)) (segment .entry .place) (e .place) (now (e .bytes))) ⌝ }
 {
     let bytes = segment.bytes;
     let mut at = 0;
@@ -37,7 +37,10 @@ pub fn element_in<'a>(separator: u8, segment: Segment<'a>, number: usize) -> Opt
     if at == end {
         return None;
     }
-    Some(Element { place: segment.place + at, bytes: &bytes[at..end] })
+    Some(Element {
+        place: segment.place + at,
+        bytes: &bytes[at..end],
+    })
 }
 
 // Element `number` of segment `segment`, counted from 1; number 0 is the segment's name.

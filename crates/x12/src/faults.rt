@@ -21,9 +21,29 @@ pub enum ByteFault {
     // A delimiter that is not of class 5.
     WrongDelimiter,
     // A byte of class 0 or a component separator, outside ISA16.
-    WrongByte { segment: usize, element: usize, place: usize },
+    WrongByte {
+        segment: usize,
+        element: usize,
+        place: usize,
+    },
     // No terminator, or a bad name.
-    WrongSegment { segment: usize, place: usize },
+    WrongSegment {
+        segment: usize,
+        place: usize,
+    },
+}
+
+// A fault of layer 1.
+fn of_bytes(number: u8, segment: usize, element: usize, place: usize) -> Fault
+    ensures { λ r. ⌜ r ≡ record { number = number; layer = 1; segment = segment; element = element; place = place } ⌝ }
+{
+    Fault {
+        number,
+        layer: 1,
+        segment,
+        element,
+        place,
+    }
 }
 
 impl ByteFault {
@@ -32,11 +52,15 @@ impl ByteFault {
         ensures { λ r. ⌜ r ≡ causeOf self ⌝ }
     {
         match self {
-            ByteFault::WrongLength => Fault { number: 1, layer: 1, segment: 0, element: 0, place: 0 },
-            ByteFault::WrongHeader => Fault { number: 2, layer: 1, segment: 1, element: 0, place: 0 },
-            ByteFault::WrongDelimiter => Fault { number: 3, layer: 1, segment: 1, element: 0, place: 0 },
-            ByteFault::WrongByte { segment, element, place } => Fault { number: 4, layer: 1, segment, element, place },
-            ByteFault::WrongSegment { segment, place } => Fault { number: 5, layer: 1, segment, element: 0, place },
+            ByteFault::WrongLength => of_bytes(1, 0, 0, 0),
+            ByteFault::WrongHeader => of_bytes(2, 1, 0, 0),
+            ByteFault::WrongDelimiter => of_bytes(3, 1, 0, 0),
+            ByteFault::WrongByte {
+                segment,
+                element,
+                place,
+            } => of_bytes(4, segment, element, place),
+            ByteFault::WrongSegment { segment, place } => of_bytes(5, segment, 0, place),
         }
     }
 }

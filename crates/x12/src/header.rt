@@ -16,7 +16,10 @@ use crate::parts::Delimiters;
 fn is_separator_place(i: usize) -> bool
     ensures { λ r. ⌜ r ≡ among i separatorPlaces ⌝ }
 {
-    matches!(i, 3 | 6 | 17 | 20 | 31 | 34 | 50 | 53 | 69 | 76 | 81 | 83 | 89 | 99 | 101 | 103)
+    matches!(
+        i,
+        3 | 6 | 17 | 20 | 31 | 34 | 50 | 53 | 69 | 76 | 81 | 83 | 89 | 99 | 101 | 103
+    )
 }
 
 // Whether the interchange begins with ISA.
@@ -67,5 +70,9 @@ pub fn read_header(interchange: &[u8]) -> Result<Delimiters, ByteFault>
     if class(separator) != 5 || class(component) != 5 || class(terminator) != 5 {
         return Err(ByteFault::WrongDelimiter);
     }
-    Ok(Delimiters { separator, component, terminator })
+    Ok(Delimiters {
+        separator,
+        component,
+        terminator,
+    })
 }

@@ -9,7 +9,11 @@ use crate::parts::Segment;
 
 // The first segment from byte `at` on: line breaks are skipped, and the segment runs to the next terminator, or to the end.
 // None where only line breaks are left.
-pub fn next_segment<'a>(interchange: &'a [u8], delimiters: Delimiters, at: usize) -> Option<Segment<'a>>
+pub fn next_segment<'a>(
+    interchange: &'a [u8],
+    delimiters: Delimiters,
+    at: usize,
+) -> Option<Segment<'a>>
     ensures { λ r. ⌜ Cases r
         (segmentsFrom (delimiters .terminator) at (now (interchange .entry)) ≡ [])
         (λ s. FirstFrom (now (interchange .entry)) (delimiters .terminator) at (s .place) (now (s .bytes)) (s .closed)) ⌝ }
@@ -22,5 +26,9 @@ pub fn next_segment<'a>(interchange: &'a [u8], delimiters: Delimiters, at: usize
         return None;
     }
     let end = find_from(interchange, place, delimiters.terminator);
-    Some(Segment { place, bytes: &interchange[place..end], closed: end < interchange.len() })
+    Some(Segment {
+        place,
+        bytes: &interchange[place..end],
+        closed: end < interchange.len(),
+    })
 }

@@ -27,7 +27,13 @@ fn answer(interchange: &[u8]) -> Result<usize, Fault> {
 }
 
 fn at(number: u8, segment: usize, element: usize, place: usize) -> Result<usize, Fault> {
-    Err(Fault { number, layer: 1, segment, element, place })
+    Err(Fault {
+        number,
+        layer: 1,
+        segment,
+        element,
+        place,
+    })
 }
 
 // A sound header and then `count` bytes `b`.
@@ -150,7 +156,13 @@ fn name_has_two_or_three_capitals_or_digits() -> Result<(), Fail> {
 }
 
 // Whether the element is there, at that place and with those bytes.
-fn hands_out(interchange: &[u8], segment: usize, number: usize, place: usize, bytes: &[u8]) -> bool {
+fn hands_out(
+    interchange: &[u8],
+    segment: usize,
+    number: usize,
+    place: usize,
+    bytes: &[u8],
+) -> bool {
     match element(interchange, segment, number) {
         Some(found) => found.place == place && found.bytes == bytes,
         None => false,

@@ -34,8 +34,9 @@ loop-at-again c =
     let k = c .scan-part-end .ensures in
     let lo = k .ends .low in
     let lt : c .scan-part-end .result .end < length s = omega (arith, k .ends .within) in
-    let known = check-known (c .args .delimiters .component) (c .args .number) (c .args .segment .closed) (c .loop-at .element) (c .args .segment .place + c .loop-at .at) (between (c .loop-at .at) (c .scan-part-end .result .end) s) (c .scan-part-end .result .bad) _ (k .judged) (c .in-Continue-check-part .ensures tt) in
-    ( omega arith
-    , omega arith
-    , sym (part-on (partCheck (c .args .delimiters .component) (c .args .number) (c .args .segment .closed)) s (c .args .delimiters .separator) (c .args .segment .place) (c .loop-at .element) (c .loop-at .at) (c .scan-part-end .result .end) _ (k .ends) lt known)
-      ∙ c .loop-at .inv .2)
+    let known = check-known (c .args .delimiters .component) (c .args .number) (c .args .segment .closed) (c .loop-at .element) (c .args .segment .place + c .loop-at .at) (between (c .loop-at .at) (c .scan-part-end .result .end) s) (c .scan-part-end .result .bad) _ (k .judged) (c .in-Continue-check-part .ensures tt) in (
+      omega arith,
+      omega arith,
+      sym (part-on (partCheck (c .args .delimiters .component) (c .args .number) (c .args .segment .closed)) s (c .args .delimiters .separator) (c .args .segment .place) (c .loop-at .element) (c .loop-at .at) (c .scan-part-end .result .end) _ (k .ends) lt known)
+          ∙ c .loop-at .inv .2,
+    )

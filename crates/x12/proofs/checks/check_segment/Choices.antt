@@ -10,7 +10,7 @@ abbrev pub Inv-loop-at : given.InvT-loop-at
 Inv-loop-at l =
     (l .at ≤ length (l .bytes)) × (l .element ≤ l .at)
     × (each (partCheck (l .delimiters .component) (l .number) (l .segment .closed)) (l .element) (partsOf (l .delimiters .separator) (l .segment .place + l .at) (drop (l .at) (l .bytes)))
-        ≡ each (partCheck (l .delimiters .component) (l .number) (l .segment .closed)) 0 (partsOf (l .delimiters .separator) (l .segment .place) (l .bytes)))
+    ≡ each (partCheck (l .delimiters .component) (l .number) (l .segment .closed)) 0 (partsOf (l .delimiters .separator) (l .segment .place) (l .bytes)))
 
 abbrev pub μ-loop-at : given.MeasureT-loop-at
 μ-loop-at l = length (l .bytes) + 1 - l .at

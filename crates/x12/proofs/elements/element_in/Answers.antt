@@ -31,7 +31,8 @@ pub returns : need.returns
 returns c =
     let s = c .args .segment .bytes .now in
     let h = c .find-from-end-2 .ensures in
-    let lo = h .low in
-    ( between-some s (c .loop-left .at) (c .find-from-end-2 .result) (omega arith) (h .within)
-    , c .loop-left .inv .1 ∙ part-here s (c .args .separator) (c .args .segment .place) (c .args .segment .place + length s) (c .loop-left .at) (c .find-from-end-2 .result) (c .loop-left .left) h (omega arith)
-    , part-of s (c .args .segment .place) (c .loop-left .at) (c .find-from-end-2 .result) lo (h .within))
+    let lo = h .low in (
+      between-some s (c .loop-left .at) (c .find-from-end-2 .result) (omega arith) (h .within),
+      c .loop-left .inv .1 ∙ part-here s (c .args .separator) (c .args .segment .place) (c .args .segment .place + length s) (c .loop-left .at) (c .find-from-end-2 .result) (c .loop-left .left) h (omega arith),
+      part-of s (c .args .segment .place) (c .loop-left .at) (c .find-from-end-2 .result) lo (h .within),
+    )

@@ -9,7 +9,7 @@ abbrev pub Inv-loop-left : given.InvT-loop-left
 Inv-loop-left l =
     (l .at ≤ length (l .bytes))
     × (partAt (l .segment .place + length (l .bytes)) (partsOf (l .separator) (l .segment .place) (l .bytes)) (l .number)
-        ≡ partAt (l .segment .place + length (l .bytes)) (partsOf (l .separator) (l .segment .place + l .at) (drop (l .at) (l .bytes))) (l .left))
+    ≡ partAt (l .segment .place + length (l .bytes)) (partsOf (l .separator) (l .segment .place + l .at) (drop (l .at) (l .bytes))) (l .left))
 
 abbrev pub μ-loop-left : given.MeasureT-loop-left
 μ-loop-left l = l .left

@@ -33,8 +33,9 @@ returns-in-Break-check-segment c =
 pub returns : need.returns
 returns c =
     let d = c .in-Continue-delimiters .ensures tt in
-    let e = c .in-rest .ensures tt in
-    ( body-passed (c .args .interchange .now) (c .in-Continue-delimiters .delimiters .separator) (c .in-Continue-delimiters .delimiters .component) (d .1) (d .2) tt (d .0) tt
-      (sym (c .loop-segment .inv .3)
-      ∙ ap (each (segmentCheck (c .in-Continue-delimiters .delimiters .separator) (c .in-Continue-delimiters .delimiters .component)) (c .loop-segment .count + 1)) e)
-    , sym (add-zero (c .loop-segment .count)) ∙ ap (λ (l : List Segment). c .loop-segment .count + length l) (sym e) ∙ c .loop-segment .inv .2)
+    let e = c .in-rest .ensures tt in (
+      body-passed (c .args .interchange .now) (c .in-Continue-delimiters .delimiters .separator) (c .in-Continue-delimiters .delimiters .component) (d .1) (d .2) tt (d .0) tt
+          (sym (c .loop-segment .inv .3)
+          ∙ ap (each (segmentCheck (c .in-Continue-delimiters .delimiters .separator) (c .in-Continue-delimiters .delimiters .component)) (c .loop-segment .count + 1)) e),
+      sym (add-zero (c .loop-segment .count)) ∙ ap (λ (l : List Segment). c .loop-segment .count + length l) (sym e) ∙ c .loop-segment .inv .2,
+    )
