@@ -122,11 +122,11 @@ skip-flatten d e (row a lo hi inner after) xs h =
     ∙ (ap (skipDeeper d) (append-assoc (flatten (suc e) inner) (flatten e after) xs)
     ∙ (skip-flatten d (suc e) inner (flatten e after ++ xs) (omega arith) ∙ skip-flatten d e after xs h))
 
-not-deeper-more : (d e : ℕ) (xs : List TableRow) → d ≤ e → FirstNotDeeper d xs → FirstNotDeeper e xs
+pub not-deeper-more : (d e : ℕ) (xs : List TableRow) → d ≤ e → FirstNotDeeper d xs → FirstNotDeeper e xs
 not-deeper-more d e [] h s = tt
 not-deeper-more d e (x ∷ xs) h s = omega arith
 
-flatten-not-deeper : (d : ℕ) (rows : Rows) (xs : List TableRow) → FirstNotDeeper d xs → FirstNotDeeper d (flatten d rows ++ xs)
+pub flatten-not-deeper : (d : ℕ) (rows : Rows) (xs : List TableRow) → FirstNotDeeper d xs → FirstNotDeeper d (flatten d rows ++ xs)
 flatten-not-deeper d end xs s = s
 flatten-not-deeper d (row a lo hi inner after) xs s = omega arith
 

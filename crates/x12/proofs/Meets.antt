@@ -46,7 +46,7 @@ bad-some component v b h u =
     decides-by-or (badByte component) (λ b. (classOf b ≡ 0) ⊎ (b ≡ component)) (some (badByte component)) (bad-decides component) refl (λ _ _. refl) v .1
     (h .0, h .1, λ d. subst (λ (x : ℕ). (classOf x ≡ 0) ⊎ (x ≡ component)) (sym (h .2 d)) u)
 
-name-byte-decides : (b : ℕ) → Decides (nameByte b) ((classOf b ≡ 1) ⊎ (classOf b ≡ 2))
+pub name-byte-decides : (b : ℕ) → Decides (nameByte b) ((classOf b ≡ 1) ⊎ (classOf b ≡ 2))
 name-byte-decides b = (means, from)
   where
     means : nameByte b ≡ true → (classOf b ≡ 1) ⊎ (classOf b ≡ 2)
@@ -61,7 +61,7 @@ name-byte-decides b = (means, from)
     from (inl e) = ap (within 1 2) e
     from (inr e) = ap (within 1 2) e
 
-name-decides : (v : List ℕ) → Decides (goodName v) (Name v)
+pub name-decides : (v : List ℕ) → Decides (goodName v) (Name v)
 name-decides v = (means, from)
   where
     bytes : Decides (every nameByte v) (All (λ b. (classOf b ≡ 1) ⊎ (classOf b ≡ 2)) v)

@@ -1,0 +1,3 @@
+pub mod LawTest
+pub mod Rows
+pub mod Sets

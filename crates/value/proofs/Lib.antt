@@ -1,0 +1,6 @@
+pub mod Bytes
+pub mod Calendar
+pub mod Meaning
+pub mod Numbers
+pub mod Signs
+pub mod Turns
