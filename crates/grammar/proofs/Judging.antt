@@ -22,7 +22,7 @@ use Rattle.grammar.proofs.LawfulSets.{RowMatches, lawful-usable, lawful-distin
 use Rattle.grammar.proofs.Deciding.{state-may-end-decided, ReadAll, RefusedAt, read-all}
 
 -- the beginning of a run that matches the first marks
-front-run : (label : ℕ → Label) (marks more : List Mark) {S X : LoopState} {n : ℕ} {w : List Spot} → LoopRun S n w X → RowsMatch label w (marks ++ more) → (S₁ : LoopState) × LoopRun S n (take (length marks) w) S₁ × RowsMatch label (take (length marks) w) marks
+pub front-run : (label : ℕ → Label) (marks more : List Mark) {S X : LoopState} {n : ℕ} {w : List Spot} → LoopRun S n w X → RowsMatch label w (marks ++ more) → (S₁ : LoopState) × LoopRun S n (take (length marks) w) S₁ × RowsMatch label (take (length marks) w) marks
 front-run label [] more {S = S} r f = (S, loop-stay, tt)
 front-run label (mark ∷ marks) more loop-stay f = elim f [ ]
 front-run label (mark ∷ marks) more (loop-move s r) f =
@@ -30,11 +30,11 @@ front-run label (mark ∷ marks) more (loop-move s r) f =
     (t .0, loop-move s (t .1), (f .0, t .2))
 
 module _ (label : ℕ → Label) (set : Rows) (lawful : LawfulSet label set) where
-  distinct : DistinctState (interchange set ∷ [])
+  pub distinct : DistinctState (interchange set ∷ [])
   distinct = tree-distinct (interchange set) (lawful-distinct label set lawful)
 
   -- two runs whose rows match the same marks have the same spots
-  same-runs : {S₁ S₂ : LoopState} (w₁ w₂ : List Spot) (marks : List Mark) → LoopRun ((interchange set, 0) ∷ []) 1 w₁ S₁ → LoopRun ((interchange set, 0) ∷ []) 1 w₂ S₂ → RowsMatch (withEnvelope label) w₁ marks → RowsMatch (withEnvelope label) w₂ marks → w₁ ≡ w₂
+  pub same-runs : {S₁ S₂ : LoopState} (w₁ w₂ : List Spot) (marks : List Mark) → LoopRun ((interchange set, 0) ∷ []) 1 w₁ S₁ → LoopRun ((interchange set, 0) ∷ []) 1 w₂ S₂ → RowsMatch (withEnvelope label) w₁ marks → RowsMatch (withEnvelope label) w₂ marks → w₁ ≡ w₂
   same-runs w₁ w₂ marks r₁ r₂ f₁ f₂ =
       let t = same-marks-same-rows (RowMatches label) (rowsOf w₁) (rowsOf w₂) marks distinct (lawful-determined label set lawful) (forget-run r₁) (forget-run r₂) (match-fit (withEnvelope label) w₁ marks f₁) (match-fit (withEnvelope label) w₂ marks f₂) in
       same-rows-same-spots distinct r₁ r₂ (t .0)
@@ -51,27 +51,33 @@ module _ (label : ℕ → Label) (set : Rows) (lawful : LawfulSet label set) whe
       let t = accepts-derivation (interchange set) 0 1 w a in
       (t .0, (t .1, fit-match (withEnvelope label) (t .0) marks (subst (λ (z : List ℕ). RowsFit (RowMatches label) z marks) (sym (t .2)) f)))
 
-  rows-begin : (marks : List Mark) → BeginsRows (RowMatches label) (interchange set) marks → Begins label set marks
+  pub rows-begin : (marks : List Mark) → BeginsRows (RowMatches label) (interchange set) marks → Begins label set marks
   rows-begin marks (more, w, f, a) =
       let t = accepted-derivation w (marks ++ more) a f in
       (more, t .0, t .1)
 
-  begin-rows : (marks : List Mark) → Begins label set marks → BeginsRows (RowMatches label) (interchange set) marks
+  pub begin-rows : (marks : List Mark) → Begins label set marks → BeginsRows (RowMatches label) (interchange set) marks
   begin-rows marks (more, w, d) = (more, rowsOf w, match-fit (withEnvelope label) w (marks ++ more) (d .1), derivation-accepts (interchange set) 0 1 w (d .0))
 
-  -- marks that were all read have one derivation, or only begin one
-  all-read : (marks : List Mark) (w : List ℕ) (S : State) → Run (interchange set ∷ []) w S → RowsFit (RowMatches label) w marks → Dec (StateMayEnd S) → OneDerivation label set marks ⊎ OnlyBegun label set marks
-  all-read marks w S r f (yes e) =
+  -- marks that were all read have one derivation where the state may end, and else only begin one
+  pub read-whole : (marks : List Mark) (w : List ℕ) (S : State) → Run (interchange set ∷ []) w S → RowsFit (RowMatches label) w marks → StateMayEnd S → OneDerivation label set marks
+  read-whole marks w S r f e =
       let t = accepted-derivation w marks (S, r, e) f in
-      inl (t .0, t .1, λ v d. same-runs v (t .0) marks (derivation-run (d .0) .1) (derivation-run (t .1 .0) .1) (d .1) (t .1 .1))
-  all-read marks w S r f (no n) =
-      inr (
+      (t .0, t .1, λ v d. same-runs v (t .0) marks (derivation-run (d .0) .1) (derivation-run (t .1 .0) .1) (d .1) (t .1 .1))
+
+  pub read-part : (marks : List Mark) (w : List ℕ) (S : State) → Run (interchange set ∷ []) w S → RowsFit (RowMatches label) w marks → (StateMayEnd S → ⊥) → OnlyBegun label set marks
+  read-part marks w S r f n =
+      (
         rows-begin marks (read-begins (RowMatches label) (interchange set) (lawful-usable label set lawful) w S marks r f),
         λ v d.
             let a = derivation-accepts (interchange set) 0 1 v (d .0) in
             let t = same-marks-same-rows (RowMatches label) (rowsOf v) w marks distinct (lawful-determined label set lawful) (a .1) r (match-fit (withEnvelope label) v marks (d .1)) f in
             n (subst StateMayEnd (t .1) (a .2)),
       )
+
+  all-read : (marks : List Mark) (w : List ℕ) (S : State) → Run (interchange set ∷ []) w S → RowsFit (RowMatches label) w marks → Dec (StateMayEnd S) → OneDerivation label set marks ⊎ OnlyBegun label set marks
+  all-read marks w S r f (yes e) = inl (read-whole marks w S r f e)
+  all-read marks w S r f (no n) = inr (read-part marks w S r f n)
 
   pub judge : (marks : List Mark) → OneDerivation label set marks ⊎ (FirstMisfit label set marks ⊎ OnlyBegun label set marks)
   judge marks = by-reading (read-all (RowMatches label) (λ q m. matches-decided (withEnvelope label q) m) marks (interchange set ∷ []))

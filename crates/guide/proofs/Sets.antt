@@ -39,7 +39,7 @@ all-right : {X : Type 0} (P : X → Type 0) (xs ys : List X) → All P (xs ++ ys
 all-right P [] ys a = a
 all-right P (x ∷ xs) ys a = all-right P xs ys (a .1)
 
-count-numbered : (n : ℕ) (t : Tree) → count (numbered n t) ≡ size t
+pub count-numbered : (n : ℕ) (t : Tree) → count (numbered n t) ≡ size t
 count-numbered n none = refl
 count-numbered n (branch this inner after) = (λ i. suc (count-numbered (suc n) inner i + count-numbered (suc n + size inner) after i))
 

@@ -1,0 +1,16 @@
+pub mod Asks
+pub mod Ends
+pub mod Finds
+pub mod Fitting
+pub mod Inside
+pub mod Joined
+pub mod Loops
+pub mod Outside
+pub mod Passes
+pub mod Passing
+pub mod Phases
+pub mod Promise
+pub mod Structures
+pub mod Tables
+pub mod Turns
+pub mod Wholes

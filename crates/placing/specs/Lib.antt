@@ -1,0 +1,5 @@
+pub mod Model
+pub mod Placing
+pub mod Stages
+pub mod Structure
+pub mod Turns
