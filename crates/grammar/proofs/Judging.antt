@@ -66,14 +66,13 @@ module _ (label : ℕ → Label) (set : Rows) (lawful : LawfulSet label set) whe
       (t .0, t .1, λ v d. same-runs v (t .0) marks (derivation-run (d .0) .1) (derivation-run (t .1 .0) .1) (d .1) (t .1 .1))
 
   pub read-part : (marks : List Mark) (w : List ℕ) (S : State) → Run (interchange set ∷ []) w S → RowsFit (RowMatches label) w marks → (StateMayEnd S → ⊥) → OnlyBegun label set marks
-  read-part marks w S r f n =
-      (
-        rows-begin marks (read-begins (RowMatches label) (interchange set) (lawful-usable label set lawful) w S marks r f),
-        λ v d.
-            let a = derivation-accepts (interchange set) 0 1 v (d .0) in
-            let t = same-marks-same-rows (RowMatches label) (rowsOf v) w marks distinct (lawful-determined label set lawful) (a .1) r (match-fit (withEnvelope label) v marks (d .1)) f in
-            n (subst StateMayEnd (t .1) (a .2)),
-      )
+  read-part marks w S r f n = (
+    rows-begin marks (read-begins (RowMatches label) (interchange set) (lawful-usable label set lawful) w S marks r f),
+    λ v d.
+        let a = derivation-accepts (interchange set) 0 1 v (d .0) in
+        let t = same-marks-same-rows (RowMatches label) (rowsOf v) w marks distinct (lawful-determined label set lawful) (a .1) r (match-fit (withEnvelope label) v marks (d .1)) f in
+        n (subst StateMayEnd (t .1) (a .2)),
+  )
 
   all-read : (marks : List Mark) (w : List ℕ) (S : State) → Run (interchange set ∷ []) w S → RowsFit (RowMatches label) w marks → Dec (StateMayEnd S) → OneDerivation label set marks ⊎ OnlyBegun label set marks
   all-read marks w S r f (yes e) = inl (read-whole marks w S r f e)

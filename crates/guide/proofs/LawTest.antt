@@ -136,12 +136,12 @@ free-is k None t r e = let z : _≡_ {A = ℕ} 0 1 = cc in absurd (omega arith)
 free-is k (Some q) t r e =
     let s : q ≡ r = cc in
     elim (or-cases (isUnused (q .need)) (typedTest k q) t) [
-      inl u ↦ inl (ap (λ (x : Rule). x .need) (sym s) ∙ unused-is (q .need) u)
-    | inr d ↦ inr (subst (Typed k) s (typed-is k q d))
+      | inl u ↦ inl (ap (λ (x : Rule). x .need) (sym s) ∙ unused-is (q .need) u)
+      | inr d ↦ inr (subst (Typed k) s (typed-is k q d))
     ]
 
 keeps-by : (must : Bool) (k : KnownElement) (o : Option Rule) → cond must (test (λ r. isMust (r .need) && typedTest k r) o) (freeTest k o) ≡ true
-  → When must ((r : Rule) × (o ≡ Some r) × (r .need ≡ Must) × Typed k r) ((r : Rule) → o ≡ Some r → (r .need ≡ Unused) ⊎ Typed k r)
+    → When must ((r : Rule) × (o ≡ Some r) × (r .need ≡ Must) × Typed k r) ((r : Rule) → o ≡ Some r → (r .need ≡ Unused) ⊎ Typed k r)
 keeps-by true k o t =
     let x = test-some (λ r. isMust (r .need) && typedTest k r) o t in
     let p = and-parts (isMust (x .0 .need)) (typedTest k (x .0)) (x .2) in
@@ -239,11 +239,12 @@ names-passed last po1 ack ctt n s t =
 bounds-is : (s : Standing) → boundsTest s ≡ true → (s .depth ≤ 4) × All (λ e. Thirty (e .number)) (s .this .elements) × All (λ p. Thirty (p .0) × Thirty (p .1)) (s .this .pairs)
 bounds-is s t =
     let a = and-parts (leb (s .depth) 4) (allOf (λ e. thirtyTest (e .number)) (s .this .elements) && allOf (λ p. thirtyTest (p .0) && thirtyTest (p .1)) (s .this .pairs)) t in
-    let b = and-parts (allOf (λ e. thirtyTest (e .number)) (s .this .elements)) (allOf (λ p. thirtyTest (p .0) && thirtyTest (p .1)) (s .this .pairs)) (a .1) in
-    ( leb-true (s .depth) 4 (a .0)
-    , all-of (λ e. thirtyTest (e .number)) (λ e. Thirty (e .number)) (λ e. thirty-decides (e .number)) (s .this .elements) (b .0)
-    , all-of (λ p. thirtyTest (p .0) && thirtyTest (p .1)) (λ p. Thirty (p .0) × Thirty (p .1))
-        (λ p. decides-and (thirtyTest (p .0)) (thirtyTest (p .1)) (thirty-decides (p .0)) (thirty-decides (p .1))) (s .this .pairs) (b .1))
+    let b = and-parts (allOf (λ e. thirtyTest (e .number)) (s .this .elements)) (allOf (λ p. thirtyTest (p .0) && thirtyTest (p .1)) (s .this .pairs)) (a .1) in (
+      leb-true (s .depth) 4 (a .0),
+      all-of (λ e. thirtyTest (e .number)) (λ e. Thirty (e .number)) (λ e. thirty-decides (e .number)) (s .this .elements) (b .0),
+      all-of (λ p. thirtyTest (p .0) && thirtyTest (p .1)) (λ p. Thirty (p .0) × Thirty (p .1))
+          (λ p. decides-and (thirtyTest (p .0)) (thirtyTest (p .1)) (thirty-decides (p .0)) (thirty-decides (p .1))) (s .this .pairs) (b .1),
+    )
 
 module _ (m : Meaning) (po1 ack ctt : ℕ) (t : lawTestBy m (size (m .tree)) po1 ack ctt ≡ true) where
   rest₁ : Bool
@@ -253,8 +254,8 @@ module _ (m : Meaning) (po1 ack ctt : ℕ) (t : lawTestBy m (size (m .tree)) po1
 
   -- the parts of the whole test
   passed : (size (m .tree) ≤ 64) × (fixedTest m 1 (codes "ST") ≡ true) × (fixedTest m 2 (codes "BAK") ≡ true) × (fixedTest m (size (m .tree)) (codes "SE") ≡ true)
-    × (everyRow (rowTest (size (m .tree)) po1 ack ctt (po1 + innerOf (rowAt m po1))) 1 (standing 0 (m .tree)) ≡ true)
-    × (po1Test m po1 ≡ true) × (ackTest m po1 ack ≡ true) × (followersTest (labelOf m) (rowsOf m) ≡ true)
+      × (everyRow (rowTest (size (m .tree)) po1 ack ctt (po1 + innerOf (rowAt m po1))) 1 (standing 0 (m .tree)) ≡ true)
+      × (po1Test m po1 ≡ true) × (ackTest m po1 ack ≡ true) × (followersTest (labelOf m) (rowsOf m) ≡ true)
   unfolding rest₁
   passed =
       let rows = everyRow (rowTest (size (m .tree)) po1 ack ctt (po1 + innerOf (rowAt m po1))) 1 (standing 0 (m .tree)) in
@@ -323,7 +324,7 @@ module _ (m : Meaning) (po1 ack ctt : ℕ) (t : lawTestBy m (size (m .tree)) po1
       (x .0, ap (rowAt m) e ∙ x .1, omega arith, omega arith)
 
   known-kept : (k : KnownElement) → OneOf knownElements k → (n : ℕ) (s : Standing) → IsRow m n s → s .this .name ≡ k .segment
-    → Keeps k (over (λ x. x .rule) (findRule (k .element) (s .this .elements)))
+      → Keeps k (over (λ x. x .rule) (findRule (k .element) (s .this .elements)))
   known-kept k o n s i e =
       let all = all-one-of (λ k. implies (isNamed (k .segment) s) (keepsTest k (over (λ x. x .rule) (findRule (k .element) (s .this .elements))))) knownElements (row n s i .5) k o in
       keeps-by (k .must) k (over (λ x. x .rule) (findRule (k .element) (s .this .elements))) (implied (isNamed (k .segment) s) _ all (is-named (k .segment) s e))
@@ -343,29 +344,29 @@ module _ (m : Meaning) (po1 ack ctt : ℕ) (t : lawTestBy m (size (m .tree)) po1
 
   lawful-by : Lawful m
   lawful-by = record {
-      few-rows = passed .0;
-      few-loops = λ n s i. bounds-is s (row n s i .0) .0;
-      few-elements = λ n s i. bounds-is s (row n s i .0) .1;
-      few-pairs = λ n s i. bounds-is s (row n s i .0) .2;
-      first-is-st = fixed-is m 1 (codes "ST") (passed .1);
-      second-is-bak = fixed-is m 2 (codes "BAK") (passed .2);
-      last-is-se = fixed-is m (size (m .tree)) (codes "SE") (passed .3);
-      no-other-st = λ n h. only-is (codes "ST") 1 n (h .0) (names n (h .0) (h .1) .0) (h .2);
-      no-other-bak = λ n h. only-is (codes "BAK") 2 n (h .0) (names n (h .0) (h .1) .1) (h .2);
-      no-other-se = λ n h. only-is (codes "SE") (size (m .tree)) n (h .0) (names n (h .0) (h .1) .2) (h .2);
-      no-envelope = outside-envelope;
-      one-ctt = λ n k a b. ctt-number n a ∙ sym (ctt-number k b);
-      ctt-once = λ n s i e. (ctt-passed n s i e .0, ctt-passed n s i e .1);
-      ctt-behind-po1 = behind-po1;
-      uses = uses-kept;
-      names = λ n s i. name-decides (s .this .name) .0 (words-kept n s i .0);
-      placings = λ n s i. all-of (every nameByte) (All (λ b. (classOf b ≡ 1) ⊎ (classOf b ≡ 2))) code-decides (s .this .placing) (words-kept n s i .1);
-      followers = followers-test-sound (labelOf m) (rowsOf m) (passed .7);
-      po1 = (po1, po1-row .0, po1-row .1, po1-row .2, po1-row .3, po1-number);
-      ack = (ack, ack-row .0, ack-number);
-      ack-in-po1 = inside-po1;
-      elements = known-kept;
-    }
+    few-rows = passed .0;
+    few-loops = λ n s i. bounds-is s (row n s i .0) .0;
+    few-elements = λ n s i. bounds-is s (row n s i .0) .1;
+    few-pairs = λ n s i. bounds-is s (row n s i .0) .2;
+    first-is-st = fixed-is m 1 (codes "ST") (passed .1);
+    second-is-bak = fixed-is m 2 (codes "BAK") (passed .2);
+    last-is-se = fixed-is m (size (m .tree)) (codes "SE") (passed .3);
+    no-other-st = λ n h. only-is (codes "ST") 1 n (h .0) (names n (h .0) (h .1) .0) (h .2);
+    no-other-bak = λ n h. only-is (codes "BAK") 2 n (h .0) (names n (h .0) (h .1) .1) (h .2);
+    no-other-se = λ n h. only-is (codes "SE") (size (m .tree)) n (h .0) (names n (h .0) (h .1) .2) (h .2);
+    no-envelope = outside-envelope;
+    one-ctt = λ n k a b. ctt-number n a ∙ sym (ctt-number k b);
+    ctt-once = λ n s i e. (ctt-passed n s i e .0, ctt-passed n s i e .1);
+    ctt-behind-po1 = behind-po1;
+    uses = uses-kept;
+    names = λ n s i. name-decides (s .this .name) .0 (words-kept n s i .0);
+    placings = λ n s i. all-of (every nameByte) (All (λ b. (classOf b ≡ 1) ⊎ (classOf b ≡ 2))) code-decides (s .this .placing) (words-kept n s i .1);
+    followers = followers-test-sound (labelOf m) (rowsOf m) (passed .7);
+    po1 = (po1, po1-row .0, po1-row .1, po1-row .2, po1-row .3, po1-number);
+    ack = (ack, ack-row .0, ack-number);
+    ack-in-po1 = inside-po1;
+    elements = known-kept;
+  }
 
 -- a meaning that passes the test keeps the law
 pub lawful-by-test : (m : Meaning) → lawTest m ≡ true → Lawful m

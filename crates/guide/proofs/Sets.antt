@@ -50,10 +50,11 @@ numbered-from n (branch this inner after) =
 
 least-up : (n d : ℕ) (t : Tree) → All (λ s. s .this .least ≤ s .this .greatest) (standing d t) → LeastUpToGreatest (numbered n t)
 least-up n d none a = tt
-least-up n d (branch this inner after) a =
-    ( a .0
-    , least-up (suc n) (suc d) inner (all-left (λ s. s .this .least ≤ s .this .greatest) (standing (suc d) inner) (standing d after) (a .1))
-    , least-up (suc n + size inner) d after (all-right (λ s. s .this .least ≤ s .this .greatest) (standing (suc d) inner) (standing d after) (a .1)))
+least-up n d (branch this inner after) a = (
+  a .0,
+  least-up (suc n) (suc d) inner (all-left (λ s. s .this .least ≤ s .this .greatest) (standing (suc d) inner) (standing d after) (a .1)),
+  least-up (suc n + size inner) d after (all-right (λ s. s .this .least ≤ s .this .greatest) (standing (suc d) inner) (standing d after) (a .1)),
+)
 
 -- the first row, where it is used once and opens nothing
 size-none : (t : Tree) → size t ≡ 0 → t ≡ none
@@ -61,7 +62,7 @@ size-none none e = refl
 size-none (branch this inner after) e = absurd (omega arith)
 
 first-row : (t : Tree) (s : Standing) → nth (standing 0 t) 1 ≡ Some s → s .this .least ≡ 1 → s .this .greatest ≡ 1 → s .inner ≡ 0
-  → numbered 1 t ≡ row 1 1 1 end (afterFirst (numbered 1 t))
+    → numbered 1 t ≡ row 1 1 1 end (afterFirst (numbered 1 t))
 first-row none s e l g i = let z : _≡_ {A = ℕ} 0 1 = cc in absurd (omega arith)
 first-row (branch this inner after) s e l g i =
     let q : record { depth = 0; inner = size inner; this = this } ≡ s = cc in
@@ -92,9 +93,9 @@ lawful-rows m w =
       first = first-row (m .tree) (f .0) (f .1) (f .3) (f .4) (f .6);
       first-is-st = ap (λ (o : Option Standing). label o .name) (f .1) ∙ f .2;
       no-other-st = λ q i e.
-        let n = w .no-other-st q (labelled m q 83 (84 ∷ []) e) in
-        let h = has-count (rowsOf m) 1 (numbered-from 1 (m .tree)) q i in
-        omega arith;
+          let n = w .no-other-st q (labelled m q 83 (84 ∷ []) e) in
+          let h = has-count (rowsOf m) 1 (numbered-from 1 (m .tree)) q i in
+          omega arith;
       no-ge = λ q i e. w .no-envelope q (codes "GE") (inr (inr (inl refl))) (labelled m q 71 (69 ∷ []) e);
       followers = w .followers;
     }

@@ -46,13 +46,13 @@ hasPairs (p ∷ ps) = true
 -- a row as it is told
 abbrev pub told : Standing → Row
 told s = record {
-    depth = s .depth;
-    inner = s .inner;
-    least = s .this .least;
-    greatest = s .this .greatest;
-    elements = max (lastRule (s .this .elements)) (lastPair (s .this .pairs));
-    paired = hasPairs (s .this .pairs);
-  }
+  depth = s .depth;
+  inner = s .inner;
+  least = s .this .least;
+  greatest = s .this .greatest;
+  elements = max (lastRule (s .this .elements)) (lastPair (s .this .pairs));
+  paired = hasPairs (s .this .pairs);
+}
 
 abbrev pub rowOf : Meaning → ℕ → Option Row
 rowOf m n = over told (rowAt m n)

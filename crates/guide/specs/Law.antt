@@ -117,4 +117,4 @@ pub record Lawful (m : Meaning) : Type 0 where
   pub ack-in-po1 : (p n : ℕ) → Named m p (codes "PO1") → Named m n (codes "ACK") → Inside m p n
   -- The known elements are must and have their types.
   pub elements : (k : KnownElement) → OneOf knownElements k → (n : ℕ) (s : Standing) → IsRow m n s → s .this .name ≡ k .segment
-    → Keeps k (over (λ x. x .rule) (findRule (k .element) (s .this .elements)))
+      → Keeps k (over (λ x. x .rule) (findRule (k .element) (s .this .elements)))

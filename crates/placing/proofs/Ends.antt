@@ -30,7 +30,7 @@ before-outermost last (rows ∷ []) w = inl (ends-outermost last rows w)
 before-outermost last (rows ∷ list ∷ outer) w = inr (before-outermost last (list ∷ outer) w)
 
 taken-last : (last a lo hi : ℕ) (inner after : Rows) (outer : State) → DistinctState (row a lo hi inner after ∷ outer) → BeforeLast last (row a lo hi inner after ∷ outer) → a ≡ last
-  → inner ∷ row a (pred lo) (pred hi) inner after ∷ outer ≡ afterLast last
+    → inner ∷ row a (pred lo) (pred hi) inner after ∷ outer ≡ afterLast last
 taken-last last a lo hi inner after [] d (inl w) e = (λ i. w .3 i ∷ row (w .0 i) (pred (w .1 i)) (pred (w .2 i)) (w .3 i) (w .4 i) ∷ [])
 taken-last last a lo hi inner after [] d (inr w) e = absurd (d .0 .1 (subst (HasRow after) (sym e) (outermost-has after last (ends-outermost last after w))))
 taken-last last a lo hi inner after (list ∷ outer) d w e = absurd (d .1 a (inl refl) (subst (StateOutermostRow (list ∷ outer)) (sym e) (before-outermost last (list ∷ outer) w)))
@@ -64,8 +64,8 @@ depth-from d (branch this inner after) (suc zero) s e =
     omega arith
 depth-from d (branch this inner after) (suc (suc n)) s e =
     elim (cases-lt (length (standing (suc d) inner)) (suc n)) [
-      inl lt ↦ depth-from d after (suc n - length (standing (suc d) inner)) s (sym (nth-right (standing (suc d) inner) (standing d after) (suc n) lt) ∙ e)
-    | inr le ↦ (let h = depth-from (suc d) inner (suc n) s (sym (nth-left (standing (suc d) inner) (standing d after) (suc n) le) ∙ e) in omega arith)
+      | inl lt ↦ depth-from d after (suc n - length (standing (suc d) inner)) s (sym (nth-right (standing (suc d) inner) (standing d after) (suc n) lt) ∙ e)
+      | inr le ↦ (let h = depth-from (suc d) inner (suc n) s (sym (nth-left (standing (suc d) inner) (standing d after) (suc n) le) ∙ e) in omega arith)
     ]
 
 -- a last row that stands beside the first, is used once and opens nothing
@@ -91,8 +91,8 @@ ends-with n d (branch this inner (branch b i a)) s e p l g =
     let k : suc (size inner + (size i + size a)) - length (standing (suc d) inner) ≡ size t = omega arith in
     let m : suc n + size inner + size t - 1 ≡ n + suc (size inner + size t) - 1 = omega arith in
     let f : nth (standing d t) (size t) ≡ Some s =
-        ap (nth (standing d t)) (sym k) ∙ sym (nth-right (standing (suc d) inner) (standing d t) (suc (size inner + (size i + size a))) (omega arith))
-        ∙ ap (nth (record { depth = d; inner = size inner; this = this } ∷ (standing (suc d) inner ++ standing d t))) (sym z) ∙ e in
+    ap (nth (standing d t)) (sym k) ∙ sym (nth-right (standing (suc d) inner) (standing d t) (suc (size inner + (size i + size a))) (omega arith))
+    ∙ ap (nth (record { depth = d; inner = size inner; this = this } ∷ (standing (suc d) inner ++ standing d t))) (sym z) ∙ e in
     inr (subst (λ (j : ℕ). EndsWith j (numbered (suc n + size inner) t)) m (ends-with (suc n + size inner) d (branch b i a) s f p l g))
 
 after-ends : (last : ℕ) (rows : Rows) → 1 < last → rows ≡ row 1 1 1 end (afterFirst rows) → EndsWith last rows → EndsWith last (afterFirst rows)

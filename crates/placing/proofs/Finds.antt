@@ -86,17 +86,17 @@ module _ (m : Meaning) (us : List CodeRow) (mark : List ℕ × List ℕ) (S : St
     none-here = subst (λ (k : ℕ). NoRowOfDepth (suc k) (drop i (tableOf m))) (sym (below-length us e)) n
 
     pub takes-again : getD us e blank .count < greatestOf m (getD us e blank .row) → Search i (suc e)
-      → Finding (getD us e blank .row) (record { row = getD us e blank .row; count = getD us e blank .count + 1 } ∷ below us e)
+        → Finding (getD us e blank .row) (record { row = getD us e blank .row; count = getD us e blank .count + 1 } ∷ below us e)
     takes-again h u = search-takes-again (tableOf m) (leastOf m) (greatestOf m) (Fits m) mark S i (getD us e blank .row) (getD us e blank .count) (below us e) none-here h u
 
     pub leaves : ((greatestOf m (getD us e blank .row) ≤ getD us e blank .count) ⊎ (fitsRow m (getD us e blank .row) (mark .0) (mark .1) ≡ false)) → leastOf m (getD us e blank .row) ≤ getD us e blank .count
-      → Search i (suc e) → Search i e
+        → Search i (suc e) → Search i e
     leaves h l u =
         search-leaves (tableOf m) (leastOf m) (greatestOf m) (Fits m) mark S i (getD us e blank .row) (getD us e blank .count) (below us e) none-here
         (elim h [ inl x ↦ inl x | inr x ↦ inr (never-both (fitsRow m (getD us e blank .row) (mark .0) (mark .1)) x) ]) l u
 
     pub stops-at-used : ((greatestOf m (getD us e blank .row) ≤ getD us e blank .count) ⊎ (fitsRow m (getD us e blank .row) (mark .0) (mark .1) ≡ false)) → getD us e blank .count < leastOf m (getD us e blank .row)
-      → Search i (suc e) → Refuses (Fits m) S mark
+        → Search i (suc e) → Refuses (Fits m) S mark
     stops-at-used h l u =
         search-stops-at-used (tableOf m) (leastOf m) (greatestOf m) (Fits m) mark S i (getD us e blank .row) (getD us e blank .count) (below us e) none-here
         (elim h [ inl x ↦ inl x | inr x ↦ inr (never-both (fitsRow m (getD us e blank .row) (mark .0) (mark .1)) x) ]) l u

@@ -40,7 +40,7 @@ run-distinct (move s r) d = run-distinct r (step-distinct s d)
 
 module _ (m : Meaning) (w : Lawful m) (us : List CodeRow) (place depth g s : ℕ) (mk : Mark) where
   pub inside-refused : (S : LoopState) → StandsAt m Set g s place us depth S → ((X : State) → Stands m place us depth X → Refuses (Fits m) X (mk .name, mk .first))
-    → Refuses (RowMatches (labelOf m)) (withoutLoops S) mk
+      → Refuses (RowMatches (labelOf m)) (withoutLoops S) mk
   inside-refused S (a, b, (U, e, (st, loops, (v, run), before))) f =
       subst (λ (T : LoopState). Refuses (RowMatches (labelOf m)) (withoutLoops T) mk) (sym e) (refuse-set m w mk U (setsLeft m g s) v run before (f (withoutLoops U) st))
 
@@ -67,7 +67,7 @@ module _ (m : Meaning) (w : Lawful m) (us : List CodeRow) (place depth g s : ℕ
     Taken S p =
         RowMatches (labelOf m) (c .row) mk
         × ((V : LoopState) × LoopStep S n (record { row = c .row; loop = aroundOf us c n; outer = loopAt us (c .depth) }) V
-          × StandsAt m p g s (c .row) (taken us c n) (suc (c .depth)) V)
+        × StandsAt m p g s (c .row) (taken us c n) (suc (c .depth)) V)
 
     pub inside-taken : (S : LoopState) (p : Phase) → StandsAt m Set g s place us depth S → ((X : State) → Stands m place us depth X → Chosen m us depth (mk .name, mk .first) X c) → c .depth < length us → NextPhase (mk .name) p → Taken S p
     inside-taken S p (a, b, (U, e, (st, loops, (v, run), before))) f room next =
@@ -78,13 +78,16 @@ module _ (m : Meaning) (w : Lawful m) (us : List CodeRow) (place depth g s : ℕ
         let few = w .few-rows in
         let t = set-step m us place depth U n (mk .name, mk .first) c st loops ch room (omega (arith, within .0)) (omega (arith, within .1)) in
         let ls = loop-upper (setsLeft m g s) (t .1) in
-        let fs = forget-step (t .1) in
-        ( fits-row m w (c .row) mk has (ch .1)
-        , ( t .0 ++ setsLeft m g s
-        , subst (λ (T : LoopState). LoopStep T n (record { row = c .row; loop = aroundOf us c n; outer = loopAt us (c .depth) }) (t .0 ++ setsLeft m g s)) (sym e) ls
-        , elim next [
-            inl x ↦ subst (λ (k : Phase). StandsAt m k g s (c .row) (taken us c n) (suc (c .depth)) (t .0 ++ setsLeft m g s)) (sym (x .1))
-              (a, b, (t .0, refl, last-taken (size (m .tree)) fs (run-distinct run set-distinct) before (se-is-last (c .row) has (ch .1) (x .0))))
-          | inr x ↦ subst (λ (k : Phase). StandsAt m k g s (c .row) (taken us c n) (suc (c .depth)) (t .0 ++ setsLeft m g s)) (sym (x .1))
-              (a, b, (t .0, refl, (t .2, t .3, (v ++ (c .row ∷ []), run-append run (move fs stay)), other-taken (size (m .tree)) fs before (λ q. x .0 (last-is-se (c .row) (ch .1) q)))))
-          ]))
+        let fs = forget-step (t .1) in (
+          fits-row m w (c .row) mk has (ch .1),
+          (
+            t .0 ++ setsLeft m g s,
+            subst (λ (T : LoopState). LoopStep T n (record { row = c .row; loop = aroundOf us c n; outer = loopAt us (c .depth) }) (t .0 ++ setsLeft m g s)) (sym e) ls,
+            elim next [
+              | inl x ↦ subst (λ (k : Phase). StandsAt m k g s (c .row) (taken us c n) (suc (c .depth)) (t .0 ++ setsLeft m g s)) (sym (x .1))
+                  (a, b, (t .0, refl, last-taken (size (m .tree)) fs (run-distinct run set-distinct) before (se-is-last (c .row) has (ch .1) (x .0))))
+              | inr x ↦ subst (λ (k : Phase). StandsAt m k g s (c .row) (taken us c n) (suc (c .depth)) (t .0 ++ setsLeft m g s)) (sym (x .1))
+                  (a, b, (t .0, refl, (t .2, t .3, (v ++ (c .row ∷ []), run-append run (move fs stay)), other-taken (size (m .tree)) fs before (λ q. x .0 (last-is-se (c .row) (ch .1) q)))))
+            ],
+          ),
+        )

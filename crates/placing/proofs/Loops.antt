@@ -76,13 +76,13 @@ no-loop m a s e f =
 some-loop : (m : Meaning) (a : ℕ) (s : Standing) (x : TableRow) (xs : List TableRow) → rowAt m a ≡ Some s → drop a (tableOf m) ≡ x ∷ xs → s .depth < x .depth → 0 < s .inner
 some-loop m a s x xs e q h =
     let k : length (drop (a + s .inner) (tableOf m)) ≡ length (skipDeeper (s .depth) xs) =
-        ap length (table-skips m a s e ∙ ap (skipDeeper (s .depth)) q ∙ cond-true (ltb (s .depth) (x .depth)) (skipDeeper (s .depth) xs) (x ∷ xs) (lt-ltb (s .depth) (x .depth) h)) in
+    ap length (table-skips m a s e ∙ ap (skipDeeper (s .depth)) q ∙ cond-true (ltb (s .depth) (x .depth)) (skipDeeper (s .depth) xs) (x ∷ xs) (lt-ltb (s .depth) (x .depth) h)) in
     let l = length-skip (s .depth) xs in
     let r : length (drop a (tableOf m)) ≡ suc (length xs) = ap length q in
     omega (arith, length-drop (a + s .inner) (tableOf m), length-drop a (tableOf m))
 
 opens-by : (m : Meaning) (a : ℕ) (s : Standing) (inner after : Rows) (outer : State) → rowAt m a ≡ Some s → s .depth ≡ length outer → 1 < a → a < 65
-  → drop a (tableOf m) ≡ flatten (suc (length outer)) inner ++ (flatten (length outer) after ++ behindUsed outer) → opensOf m a ≡ opensLoop a inner
+    → drop a (tableOf m) ≡ flatten (suc (length outer)) inner ++ (flatten (length outer) after ++ behindUsed outer) → opensOf m a ≡ opensLoop a inner
 opens-by m a s end after outer e d lo hi q =
     let n = no-loop m a s e (subst (λ (k : ℕ). FirstNotDeeper k (drop a (tableOf m))) (sym d) (subst (FirstNotDeeper (length outer)) (sym q) (flatten-not-deeper (length outer) after (behindUsed outer) (behind-not-deeper outer (length outer) (omega arith))))) in
     ap opensIn e ∙ le-ltb 0 (s .inner) (omega arith)
@@ -105,12 +105,12 @@ module _ (m : Meaning) (us : List CodeRow) (place depth : ℕ) (U : LoopState) (
       (λ i. record { row = e i .row; count = e i .count } ∷ below-set us (c .depth) (c .depth) new (omega arith) i)
 
   levels-taken : c .depth < length us → c .depth ≤ depth → ((k : ℕ) → k < depth → depthOf m (getD us k blank .row) ≡ k) → depthOf m (c .row) ≡ c .depth
-    → (k : ℕ) → k < suc (c .depth) → depthOf m (getD (taken us c n) k blank .row) ≡ k
+      → (k : ℕ) → k < suc (c .depth) → depthOf m (getD (taken us c n) k blank .row) ≡ k
   unfolding new
   levels-taken h d old here k l =
       elim (cases-lt k (c .depth)) [
-        inl lt ↦ let ne : k ≡ c .depth → ⊥ = (λ e. omega arith) in ap (λ (y : CodeRow). depthOf m (y .row)) (getD-set-other us (c .depth) k new blank ne) ∙ old k (omega arith)
-      | inr ge ↦ let e : c .depth ≡ k = omega arith in subst (λ (j : ℕ). depthOf m (getD (taken us c n) j blank .row) ≡ j) e (ap (λ (y : CodeRow). depthOf m (y .row)) (getD-set-same us (c .depth) new blank h) ∙ here)
+        | inl lt ↦ let ne : k ≡ c .depth → ⊥ = (λ e. omega arith) in ap (λ (y : CodeRow). depthOf m (y .row)) (getD-set-other us (c .depth) k new blank ne) ∙ old k (omega arith)
+        | inr ge ↦ let e : c .depth ≡ k = omega arith in subst (λ (j : ℕ). depthOf m (getD (taken us c n) j blank .row) ≡ j) e (ap (λ (y : CodeRow). depthOf m (y .row)) (getD-set-same us (c .depth) new blank h) ∙ here)
       ]
 
   -- the lists of the state that the step leads to
@@ -139,12 +139,13 @@ module _ (m : Meaning) (us : List CodeRow) (place depth : ℕ) (U : LoopState) (
     loops-taken : LoopsAre (taken us c n) ((inner, loopOf (c .row) inner h n) ∷ (row (c .row) lo hi inner after, h) ∷ outer)
     unfolding new
     loops-taken =
-        let l = outer-length in
-        ( same-loop ∙ sym (ap (λ (k : ℕ). getD (taken us c n) k blank .around) l ∙ ap (λ (y : CodeRow). y .around) (getD-set-same us (c .depth) new blank room))
-        , (eh ∙ sym (loop-set us (length outer) (c .depth) new (omega arith)), loops-set us outer (c .depth) new (omega arith) loops))
+        let l = outer-length in (
+          same-loop ∙ sym (ap (λ (k : ℕ). getD (taken us c n) k blank .around) l ∙ ap (λ (y : CodeRow). y .around) (getD-set-same us (c .depth) new blank room)),
+          (eh ∙ sym (loop-set us (length outer) (c .depth) new (omega arith)), loops-set us outer (c .depth) new (omega arith) loops),
+        )
 
   pub set-step : Stands m place us depth (withoutLoops U) → LoopsAre us U → Chosen m us depth mark (withoutLoops U) c → c .depth < length us → 1 < c .row → c .row < 65
-    → (V : LoopState) × LoopStep U n spot V × Stands m (c .row) (taken us c n) (suc (c .depth)) (withoutLoops V) × LoopsAre (taken us c n) V
+      → (V : LoopState) × LoopStep U n spot V × Stands m (c .row) (taken us c n) (suc (c .depth)) (withoutLoops V) × LoopsAre (taken us c n) V
   set-step st loops ch room low high =
       let f = ch .4 in
       let t = looped-step U n (c .row) (f .0) (f .1) in
@@ -153,20 +154,23 @@ module _ (m : Meaning) (us : List CodeRow) (place depth : ℕ) (U : LoopState) (
       by-lists (f .0) (f .2) (t .0) (t .1) (t .2) (t .3) (t .4) (k .0) (k .1) (k .2) (k .3) (k .4) (k .5) (k .6) (k .7) (k .8) (k .9) (k .10) (fit .0) (fit .1)
     where
       by-lists : (X : State) → StandsFor (tableOf m) (leastOf m) (greatestOf m) X (c .row) (record { row = c .row; count = c .count } ∷ below us (c .depth))
-        → (x : Spot) (V : LoopState) → LoopStep U n x V → x .row ≡ c .row → withoutLoops V ≡ X
-        → (a lo hi : ℕ) (inner after : Rows) (outer : LoopState) (h : ℕ) → V ≡ (inner, loopOf a inner h n) ∷ (row a lo hi inner after, h) ∷ outer → x ≡ spotOf a inner h n → h ≡ loopAt us (length outer) → LoopsAre us outer
-        → (s : Standing) → rowAt m (c .row) ≡ Some s
-        → (V : LoopState) × LoopStep U n spot V × Stands m (c .row) (taken us c n) (suc (c .depth)) (withoutLoops V) × LoopsAre (taken us c n) V
+          → (x : Spot) (V : LoopState) → LoopStep U n x V → x .row ≡ c .row → withoutLoops V ≡ X
+          → (a lo hi : ℕ) (inner after : Rows) (outer : LoopState) (h : ℕ) → V ≡ (inner, loopOf a inner h n) ∷ (row a lo hi inner after, h) ∷ outer → x ≡ spotOf a inner h n → h ≡ loopAt us (length outer) → LoopsAre us outer
+          → (s : Standing) → rowAt m (c .row) ≡ Some s
+          → (V : LoopState) × LoopStep U n spot V × Stands m (c .row) (taken us c n) (suc (c .depth)) (withoutLoops V) × LoopsAre (taken us c n) V
       by-lists X sx x V ls xr vx a lo hi inner after outer h ev ex eh lp s here =
           let ea : a ≡ c .row = sym (ap (λ (y : Spot). y .row) ex) ∙ xr in
           let V₁ : LoopState = (inner, loopOf (c .row) inner h n) ∷ (row (c .row) lo hi inner after, h) ∷ outer in
           let e₁ : V ≡ V₁ = ev ∙ (λ i. (inner, loopOf (ea i) inner h n) ∷ (row (ea i) lo hi inner after, h) ∷ outer) in
           let sv : StandsFor (tableOf m) (leastOf m) (greatestOf m) (withoutLoops V₁) (c .row) (record { row = c .row; count = c .count } ∷ below us (c .depth)) =
-              subst (λ (Y : State). StandsFor (tableOf m) (leastOf m) (greatestOf m) Y (c .row) (record { row = c .row; count = c .count } ∷ below us (c .depth))) (sym vx ∙ ap withoutLoops e₁) sx in
+          subst (λ (Y : State). StandsFor (tableOf m) (leastOf m) (greatestOf m) Y (c .row) (record { row = c .row; count = c .count } ∷ below us (c .depth))) (sym vx ∙ ap withoutLoops e₁) sx in
           let es : x ≡ spot = ex ∙ ap (λ (b : ℕ). spotOf b inner h n) ea ∙ same-spot lo hi inner after outer h s sv here (ch .3) (ch .2) low high eh lp room in
-          let l₁ : LoopStep U n spot V₁ = subst (λ (Y : LoopState). LoopStep U n spot Y) e₁ (subst (λ (y : Spot). LoopStep U n y V) es ls) in
-          ( V₁
-          , l₁
-          , ( subst (StandsFor (tableOf m) (leastOf m) (greatestOf m) (withoutLoops V₁) (c .row)) (sym (below-taken room)) sv
-            , levels-taken room (ch .0) (st .1) (ch .3))
-          , loops-taken lo hi inner after outer h s sv here (ch .3) (ch .2) low high eh lp room)
+          let l₁ : LoopStep U n spot V₁ = subst (λ (Y : LoopState). LoopStep U n spot Y) e₁ (subst (λ (y : Spot). LoopStep U n y V) es ls) in (
+            V₁,
+            l₁,
+            (
+              subst (StandsFor (tableOf m) (leastOf m) (greatestOf m) (withoutLoops V₁) (c .row)) (sym (below-taken room)) sv,
+              levels-taken room (ch .0) (st .1) (ch .3),
+            ),
+            loops-taken lo hi inner after outer h s sv here (ch .3) (ch .2) low high eh lp room,
+          )

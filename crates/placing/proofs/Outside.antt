@@ -92,11 +92,14 @@ module _ (m : Meaning) (w : Lawful m) (mk : Mark) (n : ℕ) (p : Phase) (g s pla
   pub next-st : Told p (mk .name) NextSt → s < 256 → fitsRow m 1 (mk .name) (mk .first) ≡ true → Now → (vs : List CodeRow) → Leads 1 Set g (s + 1) 1 vs 0
   next-st (e, name) h f t vs =
       let k = at Closed e t in
-      let U = k .2 .0 in
-      ( fits-st m w mk f
-      , ( _
-        , from-state _ (k .2 .1) 1 _ (loop-lower U (setsLeft m g s) n (envelopeSpot 1) _ (subst StateMayEnd (sym (k .2 .2)) (after-last-ended (size (m .tree)))) (step-st-again m n g s h))
-        , (k .0, omega arith, ((othersOf m, 0) ∷ [], refl, set-begins m w vs))))
+      let U = k .2 .0 in (
+        fits-st m w mk f,
+        (
+          _,
+          from-state _ (k .2 .1) 1 _ (loop-lower U (setsLeft m g s) n (envelopeSpot 1) _ (subst StateMayEnd (sym (k .2 .2)) (after-last-ended (size (m .tree)))) (step-st-again m n g s h)),
+          (k .0, omega arith, ((othersOf m, 0) ∷ [], refl, set-begins m w vs)),
+        ),
+      )
 
   pub no-next-st : Told p (mk .name) NextSt → ((256 ≤ s) ⊎ (fitsRow m 1 (mk .name) (mk .first) ≡ false)) → Now → RefusedHere
   no-next-st (e, name) h t =

@@ -53,19 +53,19 @@ module _ (m : Meaning) (p p′ : Placer) (separator n : ℕ) (mk : Mark) (r : Op
 -- in the words of the interchange
 module _ (m : Meaning) (I : List ℕ) (terminator separator : ℕ) (et : terminator ≡ terminatorOf I) (es : separator ≡ separatorOf I) (done : List Segment) where
   pub refused-at : (s : Segment) (at k : ℕ) (behind : List Segment) → segmentsFrom terminator 0 I ≡ done ++ segmentsFrom terminator at I → segmentsFrom terminator at I ≡ s ∷ behind → k ≡ suc (length done)
-    → FitsNowhere m (marksIn separator done) (markIn separator s) → First (StructureMet m I) (fault 6 k 0 (s .place))
+      → FitsNowhere m (marksIn separator done) (markIn separator s) → First (StructureMet m I) (fault 6 k 0 (s .place))
   refused-at s at k behind e n c f =
       misfit-first m I 6 (suc (length done)) (s .place) (fault 6 k 0 (s .place))
       (no-row-takes done s behind
-        (ap (λ (t : ℕ). segmentsFrom t 0 I) (sym et) ∙ e ∙ ap (λ (l : List Segment). done ++ l) n)
-        (subst (λ (x : ℕ). FitsNowhere m (marksIn x done) (markIn x s)) es f))
+      (ap (λ (t : ℕ). segmentsFrom t 0 I) (sym et) ∙ e ∙ ap (λ (l : List Segment). done ++ l) n)
+      (subst (λ (x : ℕ). FitsNowhere m (marksIn x done) (markIn x s)) es f))
       (λ i. fault 6 (c i) 0 (s .place))
 
   all-done : (at : ℕ) → segmentsFrom terminator 0 I ≡ done ++ segmentsFrom terminator at I → segmentsFrom terminator at I ≡ [] → done ≡ segmentsOf I
   all-done at e n = sym (ap (λ (t : ℕ). segmentsFrom t 0 I) (sym et) ∙ e ∙ ap (λ (l : List Segment). done ++ l) n ∙ append-nil done)
 
   pub ended-early : (at k : ℕ) → segmentsFrom terminator 0 I ≡ done ++ segmentsFrom terminator at I → segmentsFrom terminator at I ≡ [] → k ≡ suc (length done)
-    → OnlyBegun (labelOf m) (rowsOf m) (marksIn separator done) → First (StructureMet m I) (fault 7 k 0 (length I))
+      → OnlyBegun (labelOf m) (rowsOf m) (marksIn separator done) → First (StructureMet m I) (fault 7 k 0 (length I))
   ended-early at k e n c o =
       let d = all-done at e n in
       misfit-first m I 7 (suc (length (segmentsOf I))) (length I) (fault 7 k 0 (length I))
@@ -73,8 +73,9 @@ module _ (m : Meaning) (I : List ℕ) (terminator separator : ℕ) (et : termina
       (λ i. fault 7 ((c ∙ ap (λ (l : List Segment). suc (length l)) d) i) 0 (length I))
 
   pub all-placed : (at k : ℕ) → segmentsFrom terminator 0 I ≡ done ++ segmentsFrom terminator at I → segmentsFrom terminator at I ≡ [] → length done ≡ k
-    → OneDerivation (labelOf m) (rowsOf m) (marksIn separator done) → None-of (StructureMet m I) × (k ≡ length (segmentsOf I))
+      → OneDerivation (labelOf m) (rowsOf m) (marksIn separator done) → None-of (StructureMet m I) × (k ≡ length (segmentsOf I))
   all-placed at k e n c o =
-      let d = all-done at e n in
-      ( no-misfit m I (subst (λ (x : ℕ × List Segment). OneDerivation (labelOf m) (rowsOf m) (marksIn (x .0) (x .1))) (λ i. (es i, d i)) o)
-      , sym c ∙ ap length d)
+      let d = all-done at e n in (
+        no-misfit m I (subst (λ (x : ℕ × List Segment). OneDerivation (labelOf m) (rowsOf m) (marksIn (x .0) (x .1))) (λ i. (es i, d i)) o),
+        sym c ∙ ap length d,
+      )

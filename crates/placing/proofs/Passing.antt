@@ -30,10 +30,10 @@ module _ (m : Meaning) (p : Placer) (n : ℕ) (mk : Mark) where
 
   -- a set that begins, or the segment is refused
   pub begun : (r : Option Step) (g s : ℕ) → Cases r (fitsRow m 1 (mk .name) (mk .first) ≡ false) (λ step. (fitsRow m 1 (mk .name) (mk .first) ≡ true) × SetBegins g s step)
-    → (fitsRow m 1 (mk .name) (mk .first) ≡ false → (S : LoopState) → PlacerStands m p S → Refuses (RowMatches (labelOf m)) (withoutLoops S) mk)
-    → (fitsRow m 1 (mk .name) (mk .first) ≡ true → (S : LoopState) → PlacerStands m p S → (vs : List CodeRow)
+      → (fitsRow m 1 (mk .name) (mk .first) ≡ false → (S : LoopState) → PlacerStands m p S → Refuses (RowMatches (labelOf m)) (withoutLoops S) mk)
+      → (fitsRow m 1 (mk .name) (mk .first) ≡ true → (S : LoopState) → PlacerStands m p S → (vs : List CodeRow)
       → RowMatches (labelOf m) 1 mk × ((V : LoopState) × LoopStep S n (envelopeSpot 1) V × StandsAt m Set g s 1 vs 0 V))
-    → Steps m p n mk r
+      → Steps m p n mk r
   begun None g s c refused leads = refused c
   begun (Some step) g s c refused leads = λ S t.
       let b = c .1 in

@@ -70,7 +70,7 @@ module _ (m : Meaning) where
       let lo : pred (1 - s) ≡ 1 - (s + 1) = omega arith in
       let hi : pred (256 - s) ≡ 256 - (s + 1) = omega arith in
       let t : LoopStep (setsLeft m g s) n (record { row = 1; loop = loopOf 1 (othersOf m) 0 n; outer = 0 }) ((othersOf m, loopOf 1 (othersOf m) 0 n) ∷ (row 1 (pred (1 - s)) (pred (256 - s)) (othersOf m) (row 67 1 1 end end), 0) ∷ groupsLeft m g)
-          = loop-take refl (omega arith) in
+      = loop-take refl (omega arith) in
       subst (λ (z : ℕ × ℕ × ℕ). LoopStep (setsLeft m g s) n (record { row = 1; loop = z .0; outer = 0 }) ((othersOf m, z .0) ∷ (row 1 (z .1) (z .2) (othersOf m) (row 67 1 1 end end), 0) ∷ groupsLeft m g)) (λ i. (e i, lo i, hi i)) t
 
   pub step-ge : (n g s : ℕ) → 1 ≤ s → LoopStep (setsLeft m g s) n (envelopeSpot 67) ((end, 0) ∷ (row 67 0 0 end end, 0) ∷ groupsLeft m g)
@@ -81,7 +81,7 @@ module _ (m : Meaning) where
       let lo : pred (1 - g) ≡ 1 - (g + 1) = omega arith in
       let hi : pred (99 - g) ≡ 99 - (g + 1) = omega arith in
       let t : LoopStep ((end, 0) ∷ (row 67 0 0 end end, 0) ∷ groupsLeft m g) n (envelopeSpot 66) ((groupRows (othersOf m), 0) ∷ (row 66 (pred (1 - g)) (pred (99 - g)) (groupRows (othersOf m)) (row 68 1 1 end end), 0) ∷ [])
-          = loop-leave (loop-skip refl (loop-leave (loop-take refl (omega arith)))) in
+      = loop-leave (loop-skip refl (loop-leave (loop-take refl (omega arith)))) in
       subst (λ (z : ℕ × ℕ). LoopStep ((end, 0) ∷ (row 67 0 0 end end, 0) ∷ groupsLeft m g) n (envelopeSpot 66) ((groupRows (othersOf m), 0) ∷ (row 66 (z .0) (z .1) (groupRows (othersOf m)) (row 68 1 1 end end), 0) ∷ [])) (λ i. (lo i, hi i)) t
 
   pub step-iea : (n g : ℕ) → 1 ≤ g → LoopStep ((end, 0) ∷ (row 67 0 0 end end, 0) ∷ groupsLeft m g) n (envelopeSpot 68) ((end, 0) ∷ (row 68 0 0 end end, 0) ∷ [])

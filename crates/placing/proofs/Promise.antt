@@ -48,22 +48,24 @@ module _ (m : Meaning) (w : Lawful m) (p : Placer) (n : ℕ) (mk : Mark) (before
   pub no-place : Refuses (RowMatches (labelOf m)) (withoutLoops (old .1)) mk → FitsNowhere m before mk
   no-place x =
       let run = forget-run (old .2) in
-      let fit = match-fit (withEnvelope (labelOf m)) (old .0) before (old .3) in
-      ( rows-begin (labelOf m) (rowsOf m) lawful before
-          (read-begins (RowMatches (labelOf m)) (interchange (rowsOf m)) (lawful-usable (labelOf m) (rowsOf m) lawful) (rowsIn (old .0)) (withoutLoops (old .1)) before run fit)
-      , λ b. refused-begins-none (RowMatches (labelOf m)) (interchange (rowsOf m)) (lawful-usable (labelOf m) (rowsOf m) lawful) (distinct (labelOf m) (rowsOf m) lawful) (lawful-determined (labelOf m) (rowsOf m) lawful)
-          (rowsIn (old .0)) (withoutLoops (old .1)) before mk run fit x (begin-rows (labelOf m) (rowsOf m) lawful (before ++ (mk ∷ [])) b))
+      let fit = match-fit (withEnvelope (labelOf m)) (old .0) before (old .3) in (
+        rows-begin (labelOf m) (rowsOf m) lawful before
+            (read-begins (RowMatches (labelOf m)) (interchange (rowsOf m)) (lawful-usable (labelOf m) (rowsOf m) lawful) (rowsIn (old .0)) (withoutLoops (old .1)) before run fit),
+        λ b. refused-begins-none (RowMatches (labelOf m)) (interchange (rowsOf m)) (lawful-usable (labelOf m) (rowsOf m) lawful) (distinct (labelOf m) (rowsOf m) lawful) (lawful-determined (labelOf m) (rowsOf m) lawful)
+            (rowsIn (old .0)) (withoutLoops (old .1)) before mk run fit x (begin-rows (labelOf m) (rowsOf m) lawful (before ++ (mk ∷ [])) b),
+      )
 
   pub one-more : (p′ : Placer) (x : Spot) (V : LoopState) → n ≡ suc (length before) → RowMatches (labelOf m) (x .row) mk → LoopStep (old .1) n x V → PlacerStands m p′ V → HasPlaced m p′ (before ++ (mk ∷ []))
   one-more p′ x V e r s st =
       let l = match-length (withEnvelope (labelOf m)) (old .0) before (old .3) in
       let k : n ≡ 1 + length (old .0) = omega arith in
-      let step : LoopStep (old .1) (1 + length (old .0)) x V = subst (λ (j : ℕ). LoopStep (old .1) j x V) k s in
-      ( old .0 ++ (x ∷ [])
-      , V
-      , loop-run-append (old .2) (loop-move step loop-stay)
-      , match-one-more (withEnvelope (labelOf m)) (old .0) before x mk (old .3) r
-      , st)
+      let step : LoopStep (old .1) (1 + length (old .0)) x V = subst (λ (j : ℕ). LoopStep (old .1) j x V) k s in (
+        old .0 ++ (x ∷ []),
+        V,
+        loop-run-append (old .2) (loop-move step loop-stay),
+        match-one-more (withEnvelope (labelOf m)) (old .0) before x mk (old .3) r,
+        st,
+      )
 
   pub begins-now : (p′ : Placer) → HasPlaced m p′ (before ++ (mk ∷ [])) → Begins (labelOf m) (rowsOf m) (before ++ (mk ∷ []))
   begins-now p′ new =
@@ -79,9 +81,10 @@ module _ (m : Meaning) (w : Lawful m) (p : Placer) (n : ℕ) (mk : Mark) (before
       let ms : List Mark = before ++ (mk ∷ []) in
       let f = front-run (withEnvelope (labelOf m)) ms more (derivation-run (d .0) .1) (d .1) in
       let same : take (length ms) spots ≡ old .0 ++ (x ∷ []) =
-          same-runs (labelOf m) (rowsOf m) lawful (take (length ms) spots) (old .0 ++ (x ∷ [])) ms (f .1) (loop-run-append (old .2) (loop-move step loop-stay)) (f .2)
-          (match-one-more (withEnvelope (labelOf m)) (old .0) before x mk (old .3) r) in
-      ( old .0
-      , drop (length ms) spots
-      , sym (take-append-drop (length ms) spots) ∙ ap (λ (v : List Spot). v ++ drop (length ms) spots) same ∙ append-assoc (old .0) (x ∷ []) (drop (length ms) spots)
-      , l)
+      same-runs (labelOf m) (rowsOf m) lawful (take (length ms) spots) (old .0 ++ (x ∷ [])) ms (f .1) (loop-run-append (old .2) (loop-move step loop-stay)) (f .2)
+      (match-one-more (withEnvelope (labelOf m)) (old .0) before x mk (old .3) r) in (
+        old .0,
+        drop (length ms) spots,
+        sym (take-append-drop (length ms) spots) ∙ ap (λ (v : List Spot). v ++ drop (length ms) spots) same ∙ append-assoc (old .0) (x ∷ []) (drop (length ms) spots),
+        l,
+      )

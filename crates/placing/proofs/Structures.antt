@@ -39,8 +39,8 @@ parted (z ∷ a) x u [] y v e = inr (inl (a, λ i. ap (head-of y) e i ∷ a))
 parted (z ∷ a) x u (w ∷ b) y v e =
     let h : z ≡ w = ap (head-of z) e in
     elim (parted a x u b y v (ap tail-of e)) [
-      inl t ↦ inl (t .0, λ i. sym h i ∷ t .1 i)
-    | inr s ↦ elim s [ inl t ↦ inr (inl (t .0, λ i. h i ∷ t .1 i)) | inr t ↦ inr (inr ((λ i. h i ∷ t .0 i), t .1)) ]
+      | inl t ↦ inl (t .0, λ i. sym h i ∷ t .1 i)
+      | inr s ↦ elim s [ inl t ↦ inr (inl (t .0, λ i. h i ∷ t .1 i)) | inr t ↦ inr (inr ((λ i. h i ∷ t .0 i), t .1)) ]
     ]
 
 pub map-append : (separator : ℕ) (a b : List Segment) → marksIn separator (a ++ b) ≡ marksIn separator a ++ marksIn separator b
@@ -60,7 +60,7 @@ module _ (m : Meaning) (I : List ℕ) where
       let ms : List Mark = marksIn (separatorOf I) a in
       let k : Mark = markIn (separatorOf I) x in
       let q : marksIn (separatorOf I) b ≡ (ms ++ (k ∷ [])) ++ marksIn (separatorOf I) rest =
-          ap (marksIn (separatorOf I)) e ∙ map-append (separatorOf I) a (x ∷ rest) ∙ sym (append-assoc ms (k ∷ []) (marksIn (separatorOf I) rest)) in
+      ap (marksIn (separatorOf I)) e ∙ map-append (separatorOf I) a (x ∷ rest) ∙ sym (append-assoc ms (k ∷ []) (marksIn (separatorOf I) rest)) in
       f .1 (starts-less (ms ++ (k ∷ [])) (marksIn (separatorOf I) rest) (subst Starts q st))
 
   same-fault : {n k l p q : ℕ} → k ≡ l → p ≡ q → fault n k 0 p ≡ fault n l 0 q
@@ -69,10 +69,10 @@ module _ (m : Meaning) (I : List ℕ) where
   one-misfit : {n k p n′ k′ p′ : ℕ} → Misfits m I n k p → Misfits m I n′ k′ p′ → fault n k 0 p ≡ fault n′ k′ 0 p′
   one-misfit (no-row-takes a x u e f) (no-row-takes b y v e′ f′) =
       elim (parted a x u b y v (sym e ∙ e′)) [
-        inl t ↦ absurd (too-long a x (t .0) b (t .1) f (f′ .0))
-      | inr s ↦ elim s [
-          inl t ↦ absurd (too-long b y (t .0) a (t .1) f′ (f .0))
-        | inr t ↦ (λ i. fault 6 (suc (length (t .0 i))) 0 (t .1 i .place))
+        | inl t ↦ absurd (too-long a x (t .0) b (t .1) f (f′ .0))
+        | inr s ↦ elim s [
+          | inl t ↦ absurd (too-long b y (t .0) a (t .1) f′ (f .0))
+          | inr t ↦ (λ i. fault 6 (suc (length (t .0 i))) 0 (t .1 i .place))
         ]
       ]
   one-misfit (no-row-takes a x u e f) (ends-early o) = absurd (too-long a x u (segmentsOf I) e f (o .0))

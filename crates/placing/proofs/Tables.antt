@@ -112,12 +112,12 @@ inner-within d (branch this inner after) (suc zero) s e =
 inner-within d (branch this inner after) (suc (suc n)) s e =
     let l = length-standing (suc d) inner in
     elim (cases-lt (length (standing (suc d) inner)) (suc n)) [
-      inl lt ↦
-        let h = inner-within d after (suc n - length (standing (suc d) inner)) s (sym (nth-right (standing (suc d) inner) (standing d after) (suc n) lt) ∙ e) in
-        omega arith
-    | inr le ↦
-        let h = inner-within (suc d) inner (suc n) s (sym (nth-left (standing (suc d) inner) (standing d after) (suc n) le) ∙ e) in
-        omega arith
+      | inl lt ↦
+          let h = inner-within d after (suc n - length (standing (suc d) inner)) s (sym (nth-right (standing (suc d) inner) (standing d after) (suc n) lt) ∙ e) in
+          omega arith
+      | inr le ↦
+          let h = inner-within (suc d) inner (suc n) s (sym (nth-left (standing (suc d) inner) (standing d after) (suc n) le) ∙ e) in
+          omega arith
     ]
 
 -- behind a row, what is deeper are the rows of its loop
@@ -132,7 +132,7 @@ drop-front (x ∷ xs) ys zero h = absurd (omega arith)
 drop-front (x ∷ xs) ys (suc n) h = let z : n - length xs ≡ suc n - suc (length xs) = omega arith in drop-front xs ys n (omega arith) ∙ ap (λ (k : ℕ). drop k ys) z
 
 skip-loop : (d k : ℕ) (t : Tree) (xs : List TableRow) → FirstNotDeeper d xs → (n : ℕ) (s : Standing) → nth (standing d t) n ≡ Some s
-  → skipDeeper (s .depth) (drop n (flatten d (numbered k t) ++ xs)) ≡ drop (n + s .inner) (flatten d (numbered k t) ++ xs)
+    → skipDeeper (s .depth) (drop n (flatten d (numbered k t) ++ xs)) ≡ drop (n + s .inner) (flatten d (numbered k t) ++ xs)
 skip-loop d k none xs f n s e = let z : _≡_ {A = ℕ} 0 1 = cc in absurd (omega arith)
 skip-loop d k (branch this inner after) xs f zero s e = let z : _≡_ {A = ℕ} 0 1 = cc in absurd (omega arith)
 skip-loop d k (branch this inner after) xs f (suc zero) s e =
@@ -143,9 +143,9 @@ skip-loop d k (branch this inner after) xs f (suc zero) s e =
     let z : 1 + size inner ≡ suc (size inner) = omega arith in
     let w : size inner - length I ≡ 0 = omega arith in
     let start : skipDeeper d ((I ++ A) ++ xs) ≡ A ++ xs =
-        ap (skipDeeper d) (append-assoc I A xs) ∙ skip-flatten d (suc d) (numbered (suc k) inner) (A ++ xs) (omega arith) ∙ skip-none d (A ++ xs) (flatten-not-deeper d (numbered (suc k + size inner) after) xs f) in
+    ap (skipDeeper d) (append-assoc I A xs) ∙ skip-flatten d (suc d) (numbered (suc k) inner) (A ++ xs) (omega arith) ∙ skip-none d (A ++ xs) (flatten-not-deeper d (numbered (suc k + size inner) after) xs f) in
     let ends : drop (size inner) ((I ++ A) ++ xs) ≡ A ++ xs =
-        ap (drop (size inner)) (append-assoc I A xs) ∙ drop-front I (A ++ xs) (size inner) (omega arith) ∙ ap (λ (j : ℕ). drop j (A ++ xs)) w in
+    ap (drop (size inner)) (append-assoc I A xs) ∙ drop-front I (A ++ xs) (size inner) (omega arith) ∙ ap (λ (j : ℕ). drop j (A ++ xs)) w in
     ap (λ (x : Standing). skipDeeper (x .depth) ((I ++ A) ++ xs)) (sym q) ∙ start ∙ sym ends
     ∙ ap (λ (j : ℕ). drop j (flatten d (numbered k (branch this inner after)) ++ xs)) (sym z)
     ∙ ap (λ (x : Standing). drop (1 + x .inner) (flatten d (numbered k (branch this inner after)) ++ xs)) q
@@ -155,10 +155,11 @@ skip-loop d k (branch this inner after) xs f (suc (suc n)) s e = go (cases-lt (l
   where
     deeper : FirstNotDeeper (suc d) (flatten d (numbered (suc k + size inner) after) ++ xs)
     deeper = not-deeper-more d (suc d) (flatten d (numbered (suc k + size inner) after) ++ xs) (omega arith) (flatten-not-deeper d (numbered (suc k + size inner) after) xs f)
+
     go : (length (standing (suc d) inner) < suc n) ⊎ (suc n ≤ length (standing (suc d) inner))
-      → (nth (standing (suc d) inner) (suc n) ≡ Some s → skipDeeper (s .depth) (drop (suc n) (flatten (suc d) (numbered (suc k) inner) ++ (flatten d (numbered (suc k + size inner) after) ++ xs))) ≡ drop (suc n + s .inner) (flatten (suc d) (numbered (suc k) inner) ++ (flatten d (numbered (suc k + size inner) after) ++ xs)))
-      → (nth (standing d after) (suc n - length (standing (suc d) inner)) ≡ Some s → skipDeeper (s .depth) (drop (suc n - length (standing (suc d) inner)) (flatten d (numbered (suc k + size inner) after) ++ xs)) ≡ drop (suc n - length (standing (suc d) inner) + s .inner) (flatten d (numbered (suc k + size inner) after) ++ xs))
-      → skipDeeper (s .depth) (drop (suc (suc n)) (flatten d (numbered k (branch this inner after)) ++ xs)) ≡ drop (suc (suc n) + s .inner) (flatten d (numbered k (branch this inner after)) ++ xs)
+        → (nth (standing (suc d) inner) (suc n) ≡ Some s → skipDeeper (s .depth) (drop (suc n) (flatten (suc d) (numbered (suc k) inner) ++ (flatten d (numbered (suc k + size inner) after) ++ xs))) ≡ drop (suc n + s .inner) (flatten (suc d) (numbered (suc k) inner) ++ (flatten d (numbered (suc k + size inner) after) ++ xs)))
+        → (nth (standing d after) (suc n - length (standing (suc d) inner)) ≡ Some s → skipDeeper (s .depth) (drop (suc n - length (standing (suc d) inner)) (flatten d (numbered (suc k + size inner) after) ++ xs)) ≡ drop (suc n - length (standing (suc d) inner) + s .inner) (flatten d (numbered (suc k + size inner) after) ++ xs))
+        → skipDeeper (s .depth) (drop (suc (suc n)) (flatten d (numbered k (branch this inner after)) ++ xs)) ≡ drop (suc (suc n) + s .inner) (flatten d (numbered k (branch this inner after)) ++ xs)
     go (inr le) a b =
         let z : suc (suc n + s .inner) ≡ suc (suc n) + s .inner = omega arith in
         ap (λ (l : List TableRow). skipDeeper (s .depth) (drop (suc n) l)) (append-assoc (flatten (suc d) (numbered (suc k) inner)) (flatten d (numbered (suc k + size inner) after)) xs)

@@ -43,8 +43,8 @@ abbrev pub PlacesNext : Meaning → Placer → Placer → ℕ → Mark → Optio
 PlacesNext m p p′ n mark r =
     (before : List Mark) → HasPlaced m p before → n ≡ suc (length before)
     → Cases r
-        (FitsNowhere m before mark × (p′ ≡ p))
-        (λ placed. Begins (labelOf m) (rowsOf m) (before ++ (mark ∷ [])) × EveryDerivationGives m before mark (spotFor placed) × HasPlaced m p′ (before ++ (mark ∷ [])))
+    (FitsNowhere m before mark × (p′ ≡ p))
+    (λ placed. Begins (labelOf m) (rowsOf m) (before ++ (mark ∷ [])) × EveryDerivationGives m before mark (spotFor placed) × HasPlaced m p′ (before ++ (mark ∷ [])))
 
 -- Whether the marks are whole: they have exactly one derivation; else they only begin one.
 abbrev pub TellsWhole : Placer → Bool → Type 0

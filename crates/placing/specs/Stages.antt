@@ -67,7 +67,7 @@ spotFor p = record { row = p .row; loop = p .around; outer = p .outer }
 abbrev pub Steps : Meaning → Placer → ℕ → Mark → Option Step → Type 0
 Steps m p n mk r = (S : LoopState) → PlacerStands m p S
     → Cases r (Refuses (RowMatches (labelOf m)) (withoutLoops S) mk)
-        (λ step. RowMatches (labelOf m) (step .placed .row) mk × ((V : LoopState) × LoopStep S n (spotFor (step .placed)) V × PlacerStands m (step .placer) V))
+    (λ step. RowMatches (labelOf m) (step .placed .row) mk × ((V : LoopState) × LoopStep S n (spotFor (step .placed)) V × PlacerStands m (step .placer) V))
 
 -- ST begins the given set of its group: the set stands behind ST, with no row in use
 pub record SetBegins (groups sets : ℕ) (step : Step) : Type 0 where

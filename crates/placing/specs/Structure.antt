@@ -30,7 +30,7 @@ marksIn separator ss = map (markIn separator) ss
 pub data Misfits (m : Meaning) (I : List ℕ) : ℕ → ℕ → ℕ → Type 0 where
   -- the marks before the segment begin a derivation, and with its own they begin none
   no-row-takes : (before : List Segment) (s : Segment) (behind : List Segment) → segmentsOf I ≡ before ++ (s ∷ behind)
-    → FitsNowhere m (marksIn (separatorOf I) before) (markIn (separatorOf I) s) → Misfits m I 6 (suc (length before)) (s .place)
+      → FitsNowhere m (marksIn (separatorOf I) before) (markIn (separatorOf I) s) → Misfits m I 6 (suc (length before)) (s .place)
   -- all marks begin a derivation and are none: the fault stands behind the last segment, at the end of the input
   ends-early : OnlyBegun (labelOf m) (rowsOf m) (marksIn (separatorOf I) (segmentsOf I)) → Misfits m I 7 (suc (length (segmentsOf I))) (length I)
 

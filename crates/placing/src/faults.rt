@@ -9,22 +9,22 @@ use x12::faults::Fault;
 pub enum SegmentFault {
     Bytes(ByteFault),
     // No row takes the segment.
-    Misplaced {
-        segment: usize,
-        place: usize,
-    },
+    Misplaced { segment: usize, place: usize },
     // The input ends before IEA.
-    Incomplete {
-        segment: usize,
-        place: usize,
-    },
+    Incomplete { segment: usize, place: usize },
 }
 
 // A fault of layer 2; it stands at element 0.
 fn of_structure(number: u8, segment: usize, place: usize) -> Fault
     ensures { λ r. ⌜ r ≡ record { number = number; layer = 2; segment = segment; element = 0; place = place } ⌝ }
 {
-    Fault { number, layer: 2, segment, element: 0, place }
+    Fault {
+        number,
+        layer: 2,
+        segment,
+        element: 0,
+        place,
+    }
 }
 
 impl SegmentFault {

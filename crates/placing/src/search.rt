@@ -43,8 +43,16 @@ fn uses_of<G: Guide>(guide: &G, row: u8) -> Uses
     ensures { λ r. ⌜ (r .least ≡ leastOf (meaning (now (guide .entry))) row) × (r .greatest ≡ greatestOf (meaning (now (guide .entry))) row) × (r .opens ≡ opensOf (meaning (now (guide .entry))) row) ⌝ }
 {
     match guide.row(row) {
-        Some(found) => Uses { least: found.least, greatest: found.greatest, opens: found.inner > 0 },
-        None => Uses { least: 0, greatest: 0, opens: false },
+        Some(found) => Uses {
+            least: found.least,
+            greatest: found.greatest,
+            opens: found.inner > 0,
+        },
+        None => Uses {
+            least: 0,
+            greatest: 0,
+            opens: false,
+        },
     }
 }
 
@@ -54,7 +62,7 @@ pub(crate) fn find<G: Guide>(guide: &G, set: &SetState, name: &[u8], first: &[u8
     ensures bounded { λ r. ⌜ found r (λ choice. choice .depth ≤ 4) ⌝ }
     ensures right { λ r. ⌜ ((S : State) → Stands (meaning (now (guide .entry))) (now (set .entry) .place) (now (set .entry) .used) (now (set .entry) .depth) S
         → Cases r (Refuses (Fits (meaning (now (guide .entry)))) S (now (name .entry), now (first .entry)))
-            (λ choice. Chosen (meaning (now (guide .entry))) (now (set .entry) .used) (now (set .entry) .depth) (now (name .entry), now (first .entry)) S choice)) ⌝ }
+        (λ choice. Chosen (meaning (now (guide .entry))) (now (set .entry) .used) (now (set .entry) .depth) (now (name .entry), now (first .entry)) S choice)) ⌝ }
 {
     let mut depth = set.depth;
     let mut place = set.place;
@@ -62,7 +70,12 @@ pub(crate) fn find<G: Guide>(guide: &G, set: &SetState, name: &[u8], first: &[u8
         if let Some(row) = row_behind(guide, place, depth) {
             let next = place + 1;
             if guide.fits(next, name, first) {
-                return Some(Choice { row: next, depth, count: 1, opens: row.inner > 0 });
+                return Some(Choice {
+                    row: next,
+                    depth,
+                    count: 1,
+                    opens: row.inner > 0,
+                });
             }
             if row.least > 0 {
                 return None;
@@ -76,7 +89,12 @@ pub(crate) fn find<G: Guide>(guide: &G, set: &SetState, name: &[u8], first: &[u8
             let used = set.used[depth];
             let uses = uses_of(guide, used.row);
             if used.count < uses.greatest && guide.fits(used.row, name, first) {
-                return Some(Choice { row: used.row, depth, count: used.count + 1, opens: uses.opens });
+                return Some(Choice {
+                    row: used.row,
+                    depth,
+                    count: used.count + 1,
+                    opens: uses.opens,
+                });
             }
             if used.count < uses.least {
                 return None;

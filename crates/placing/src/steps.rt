@@ -26,7 +26,11 @@ fn loop_at(set: &SetState, depth: usize) -> usize
     requires { ⌜ depth ≤ 4 ⌝ }
     ensures { λ r. ⌜ r ≡ loopAt (now (set .entry) .used) depth ⌝ }
 {
-    if depth == 0 { 0 } else { set.used[depth - 1].around }
+    if depth == 0 {
+        0
+    } else {
+        set.used[depth - 1].around
+    }
 }
 
 // The place of a segment that takes the chosen row.
@@ -36,7 +40,11 @@ fn place_in(set: &SetState, choice: Choice, segment: usize) -> Placed
 {
     let outer = loop_at(set, choice.depth);
     let around = if choice.opens { segment } else { outer };
-    Placed { row: choice.row, around, outer }
+    Placed {
+        row: choice.row,
+        around,
+        outer,
+    }
 }
 
 // The set once a segment took the chosen row, with the innermost loop of that segment.
@@ -45,8 +53,16 @@ fn take_row(set: &SetState, choice: Choice, around: usize) -> SetState
     ensures { λ r. ⌜ (r .place ≡ choice .row) × (r .used ≡ write (now (set .entry) .used) (choice .depth) (record { row = choice .row; count = choice .count; around = around })) × (r .depth ≡ suc (choice .depth)) ⌝ }
 {
     let mut used = set.used;
-    used[choice.depth] = UsedRow { row: choice.row, count: choice.count, around };
-    SetState { place: choice.row, used, depth: choice.depth + 1 }
+    used[choice.depth] = UsedRow {
+        row: choice.row,
+        count: choice.count,
+        around,
+    };
+    SetState {
+        place: choice.row,
+        used,
+        depth: choice.depth + 1,
+    }
 }
 
 // SE closes a set.
@@ -63,11 +79,21 @@ fn phase_behind(name: &[u8]) -> Phase
 fn outside(row: u8) -> Placed
     ensures { λ r. ⌜ r ≡ record { row = row; around = 0; outer = 0 } ⌝ }
 {
-    Placed { row, around: 0, outer: 0 }
+    Placed {
+        row,
+        around: 0,
+        outer: 0,
+    }
 }
 
 // A segment inside a set: its row is searched, and SE closes the set.
-fn inside<G: Guide>(guide: &G, placer: &Placer, segment: usize, name: &[u8], first: &[u8]) -> Option<Step>
+fn inside<G: Guide>(
+    guide: &G,
+    placer: &Placer,
+    segment: usize,
+    name: &[u8],
+    first: &[u8],
+) -> Option<Step>
     ensures { λ r. ⌜ (now (placer .entry) .phase ≡ Set → Steps (meaning (now (guide .entry))) (now (placer .entry)) segment (mark (now (name .entry)) (now (first .entry))) r) ⌝ }
 {
     let Some(choice) = find(guide, &placer.set, name, first) else {
@@ -76,30 +102,68 @@ fn inside<G: Guide>(guide: &G, placer: &Placer, segment: usize, name: &[u8], fir
     let placed = place_in(&placer.set, choice, segment);
     let set = take_row(&placer.set, choice, placed.around);
     let phase = phase_behind(name);
-    Some(Step { placed, placer: Placer { phase, set, ..*placer } })
+    Some(Step {
+        placed,
+        placer: Placer {
+            phase,
+            set,
+            ..*placer
+        },
+    })
 }
 
 // ST begins a set, if the guide takes it.
-fn begin_set<G: Guide>(guide: &G, placer: &Placer, sets: u32, name: &[u8], first: &[u8]) -> Option<Step>
+fn begin_set<G: Guide>(
+    guide: &G,
+    placer: &Placer,
+    sets: u32,
+    name: &[u8],
+    first: &[u8],
+) -> Option<Step>
     ensures { λ r. ⌜ Cases r (fitsRow (meaning (now (guide .entry))) 1 (now (name .entry)) (now (first .entry)) ≡ false)
         (λ step. (fitsRow (meaning (now (guide .entry))) 1 (now (name .entry)) (now (first .entry)) ≡ true) × SetBegins (now (placer .entry) .groups) sets step) ⌝ }
 {
     if !guide.fits(1, name, first) {
         return None;
     }
-    let set = SetState { place: 1, used: placer.set.used, depth: 0 };
-    Some(Step { placed: outside(1), placer: Placer { phase: Phase::Set, sets, set, ..*placer } })
+    let set = SetState {
+        place: 1,
+        used: placer.set.used,
+        depth: 0,
+    };
+    Some(Step {
+        placed: outside(1),
+        placer: Placer {
+            phase: Phase::Set,
+            sets,
+            set,
+            ..*placer
+        },
+    })
 }
 
 // A segment of the envelope has its place, and the interchange stands in another phase.
 fn pass(placer: &Placer, row: u8, phase: Phase, groups: u32) -> Option<Step>
     ensures { λ r. ⌜ r ≡ Some (record { placed = record { row = row; around = 0; outer = 0 }; placer = record { phase = phase; groups = groups; sets = now (placer .entry) .sets; set = now (placer .entry) .set } }) ⌝ }
 {
-    Some(Step { placed: outside(row), placer: Placer { phase, groups, ..*placer } })
+    Some(Step {
+        placed: outside(row),
+        placer: Placer {
+            phase,
+            groups,
+            ..*placer
+        },
+    })
 }
 
 // The place of the segment with this number, by its name and its first element, and the state behind it; none where no row takes it.
-pub(crate) fn next_step<G: Guide>(guide: &G, placer: &Placer, segment: usize, name: &[u8], first: &[u8]) -> Option<Step>
+pub(crate) fn next_step<G: Guide>(
+    guide: &G,
+    placer: &Placer,
+    segment: usize,
+    name: &[u8],
+    first: &[u8],
+) -> Option<Step>
     ensures { λ r. ⌜ Steps (meaning (now (guide .entry))) (now (placer .entry)) segment (mark (now (name .entry)) (now (first .entry))) r ⌝ }
 {
     match turn_of(placer.phase, name) {

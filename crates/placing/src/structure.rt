@@ -16,11 +16,15 @@ use x12::scans::scan;
 use x12::segments::next_segment;
 
 // The segments of an interchange with these delimiters, placed one after the other: how many they are, or the fault of structure that is met.
-fn place_segments<G: Guide>(guide: &G, interchange: &[u8], delimiters: Delimiters) -> Result<usize, SegmentFault>
+fn place_segments<G: Guide>(
+    guide: &G,
+    interchange: &[u8],
+    delimiters: Delimiters,
+) -> Result<usize, SegmentFault>
     ensures { λ r. ⌜ (delimiters .terminator ≡ terminatorOf (now (interchange .entry)) → delimiters .separator ≡ separatorOf (now (interchange .entry))
         → Cases r
-            (λ n. None-of (StructureMet (meaning (now (guide .entry))) (now (interchange .entry))) × (n ≡ length (segmentsOf (now (interchange .entry)))))
-            (λ f. First (StructureMet (meaning (now (guide .entry))) (now (interchange .entry))) (causeOfSegment f))) ⌝ }
+        (λ n. None-of (StructureMet (meaning (now (guide .entry))) (now (interchange .entry))) × (n ≡ length (segmentsOf (now (interchange .entry)))))
+        (λ f. First (StructureMet (meaning (now (guide .entry))) (now (interchange .entry))) (causeOfSegment f))) ⌝ }
 {
     let mut placer = Placer::start();
     let mut count = 0;
@@ -30,12 +34,18 @@ fn place_segments<G: Guide>(guide: &G, interchange: &[u8], delimiters: Delimiter
         let name = bytes_in(delimiters.separator, segment, 0);
         let first = bytes_in(delimiters.separator, segment, 1);
         if placer.place(guide, count, name, first).is_none() {
-            return Err(SegmentFault::Misplaced { segment: count, place: segment.place });
+            return Err(SegmentFault::Misplaced {
+                segment: count,
+                place: segment.place,
+            });
         }
         at = segment.place + segment.bytes.len() + 1;
     }
     if !placer.is_whole() {
-        return Err(SegmentFault::Incomplete { segment: count + 1, place: interchange.len() });
+        return Err(SegmentFault::Incomplete {
+            segment: count + 1,
+            place: interchange.len(),
+        });
     }
     Ok(count)
 }

@@ -22,10 +22,10 @@ use Rattle.placing.proofs.steps.inside.Needs as need
 
 -- what was taken, in the words of the code
 told : (m : Meaning) (S : LoopState) (g s : ℕ) (us : List CodeRow) (n : ℕ) (c : Choice) (mk : Mark) (p : Phase) (x : Placed)
-  → x ≡ record { row = c .row; around = aroundOf us c n; outer = loopAt us (c .depth) }
-  → (place : ℕ) (vs : List CodeRow) (depth : ℕ) → place ≡ c .row → vs ≡ write us (c .depth) (record { row = c .row; count = c .count; around = x .around }) → depth ≡ suc (c .depth)
-  → RowMatches (labelOf m) (c .row) mk × ((V : LoopState) × LoopStep S n (record { row = c .row; loop = aroundOf us c n; outer = loopAt us (c .depth) }) V × StandsAt m p g s (c .row) (taken us c n) (suc (c .depth)) V)
-  → RowMatches (labelOf m) (x .row) mk × ((V : LoopState) × LoopStep S n (spotFor x) V × StandsAt m p g s place vs depth V)
+    → x ≡ record { row = c .row; around = aroundOf us c n; outer = loopAt us (c .depth) }
+    → (place : ℕ) (vs : List CodeRow) (depth : ℕ) → place ≡ c .row → vs ≡ write us (c .depth) (record { row = c .row; count = c .count; around = x .around }) → depth ≡ suc (c .depth)
+    → RowMatches (labelOf m) (c .row) mk × ((V : LoopState) × LoopStep S n (record { row = c .row; loop = aroundOf us c n; outer = loopAt us (c .depth) }) V × StandsAt m p g s (c .row) (taken us c n) (suc (c .depth)) V)
+    → RowMatches (labelOf m) (x .row) mk × ((V : LoopState) × LoopStep S n (spotFor x) V × StandsAt m p g s place vs depth V)
 told m S g s us n c mk p x ex place vs depth ep ev ed t =
     let y : Placed = record { row = c .row; around = aroundOf us c n; outer = loopAt us (c .depth) } in
     let used : vs ≡ taken us c n = ev ∙ ap (λ (z : Placed). write us (c .depth) (record { row = c .row; count = c .count; around = z .around })) ex in
@@ -54,7 +54,7 @@ returns g c = λ e S st.
     let set = c .take-row-set .ensures in
     let next : NextPhase (c .args .name .now) (c .phase-behind-phase .result) = subst (NextPhase (c .args .name .now)) (sym (c .phase-behind-phase .ensures)) (phase-behind (c .args .name .now)) in
     let t = inside-taken m (g .G·Guide .lawful (c .args .guide .now)) us (p .set .place) (p .set .depth) (p .groups) (p .sets) (mark (c .args .name .now) (c .args .first .now)) n ch S (c .phase-behind-phase .result)
-        (subst (λ (k : Phase). StandsAt m k (p .groups) (p .sets) (p .set .place) us (p .set .depth) S) e st)
-        (c .in-Some .ensures tt .right) (omega arith) next in
+    (subst (λ (k : Phase). StandsAt m k (p .groups) (p .sets) (p .set .place) us (p .set .depth) S) e st)
+    (c .in-Some .ensures tt .right) (omega arith) next in
     told m S (p .groups) (p .sets) us n ch (mark (c .args .name .now) (c .args .first .now)) (c .phase-behind-phase .result) (c .place-in-placed .result) placed
     (c .take-row-set .result .place) (c .take-row-set .result .used) (c .take-row-set .result .depth) (set .0) (set .1) (set .2) t

@@ -20,8 +20,8 @@ use Rattle.placing.proofs.structure.check_structure.Needs as need
 
 -- no fault of bytes: the answer is that of structure
 sound-bytes : (m : Meaning) (I : List ℕ) (r : Result ℕ SegmentFault) → None-of (Met I)
-  → Cases r (λ n. None-of (StructureMet m I) × (n ≡ length (segmentsOf I))) (λ f. First (StructureMet m I) (causeOfSegment f))
-  → Cases r (λ n. None-of (SegmentMet m I) × (n ≡ length (segmentsOf I))) (λ f. First (SegmentMet m I) (causeOfSegment f))
+    → Cases r (λ n. None-of (StructureMet m I) × (n ≡ length (segmentsOf I))) (λ f. First (StructureMet m I) (causeOfSegment f))
+    → Cases r (λ n. None-of (SegmentMet m I) × (n ≡ length (segmentsOf I))) (λ f. First (SegmentMet m I) (causeOfSegment f))
 sound-bytes m I (Ok n) none x = (neither m I none (x .0), x .1)
 sound-bytes m I (Err f) none x = structure-only m I (causeOfSegment f) none x
 

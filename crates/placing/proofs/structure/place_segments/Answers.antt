@@ -36,13 +36,16 @@ loop-segment-again g c =
     let f = c .in-Some .ensures tt in
     let low = f .low in
     let inside = f .inside in
-    let few = c .loop-segment .inv .1 in
-    ( omega arith
-    , omega arith
-    , ( i .0 ++ (s ∷ [])
-      , one-on (segmentsFrom t 0 I) (i .0) (segmentsFrom t (c .loop-segment .at) I) _ s (i .1) (f .next)
-      , length-append (i .0) (s ∷ []) ∙ (let l = i .2 in omega arith)
-      , placed-on m (c .loop-segment .placer) (c .place .last .self) x (c .loop-segment .count + 1) (mark (c .bytes-in-name .result .now) (c .bytes-in-first .result .now)) (c .place .result) (i .0) s (c .place .ensures) (i .3) k same (c .if-is-none .ensures tt)))
+    let few = c .loop-segment .inv .1 in (
+      omega arith,
+      omega arith,
+      (
+        i .0 ++ (s ∷ []),
+        one-on (segmentsFrom t 0 I) (i .0) (segmentsFrom t (c .loop-segment .at) I) _ s (i .1) (f .next),
+        length-append (i .0) (s ∷ []) ∙ (let l = i .2 in omega arith),
+        placed-on m (c .loop-segment .placer) (c .place .last .self) x (c .loop-segment .count + 1) (mark (c .bytes-in-name .result .now) (c .bytes-in-first .result .now)) (c .place .result) (i .0) s (c .place .ensures) (i .3) k same (c .if-is-none .ensures tt),
+      ),
+    )
 
 pub returns-then-not-is-whole : need.returns-then-not-is-whole
 returns-then-not-is-whole g c = λ et es.
