@@ -1,4 +1,6 @@
 //! Elements: each is held to the rule of its row, of the envelope or of the guide.
+#![tactic(auto)]
+
 pub mod checks;
 mod envelope;
 pub mod faults;

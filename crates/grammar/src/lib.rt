@@ -1,6 +1,7 @@
 //! The theory of a guide's rows: trees of rows, the derivations by them, and what marks determine of a derivation.
 //!
 //! No other code is here: the definitions stand in specs/, and the two functions below have the theorems as their contracts.
+#![tactic(auto)]
 
 ghost use Rattle.grammar.specs.Theorems.{OneDerivationOrFirstMisfit, SameMarksSameSpots};
 

@@ -1,4 +1,6 @@
 // Judges an interchange from standard input under guide B and prints one line.
+#![tactic(auto)]
+
 use guides::guide_b::GuideB;
 use placing::structure::check_structure;
 use std::io;

@@ -1,4 +1,6 @@
 //! Placing: every segment gets its row and its loop, or the first that no derivation takes is refused.
+#![tactic(auto)]
+
 pub mod faults;
 pub mod marks;
 pub mod phase;

@@ -1,4 +1,6 @@
 //! Reading: an interchange is judged whole, and the result tables are filled.
+#![tactic(auto)]
+
 pub mod faults;
 mod judging;
 pub mod laws;

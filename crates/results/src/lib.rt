@@ -1,4 +1,6 @@
 //! The result tables of a reading: a row for each segment and a row for each loop.
+#![tactic(auto)]
+
 mod close;
 pub mod fill;
 mod number;

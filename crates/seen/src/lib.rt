@@ -1,4 +1,6 @@
 // What came before: the control numbers of the sets of a group, and the line numbers of a set.
+#![tactic(auto)]
+
 mod buckets;
 mod chains;
 pub mod control_numbers;

@@ -1,4 +1,6 @@
 //! Totals: counts, sums and control numbers of an interchange, and what must not occur twice.
+#![tactic(auto)]
+
 pub mod controls;
 pub mod counts;
 pub mod faults;

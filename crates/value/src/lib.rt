@@ -1,4 +1,6 @@
 // Checks of element types on byte strings, each proved to decide its definition.
+#![tactic(auto)]
+
 pub mod dates;
 pub mod decimals;
 pub mod digits;

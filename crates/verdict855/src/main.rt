@@ -1,4 +1,6 @@
 // Judges an interchange from standard input under guide B and prints its verdict line.
+#![tactic(auto)]
+
 use guides::guide_b::GuideB;
 use reading::read::read;
 use results::rows::{LoopRow, SegmentRow};

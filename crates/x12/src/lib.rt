@@ -1,4 +1,6 @@
 // The byte layer of an X12 interchange: classes, delimiters, segments, elements and byte faults.
+#![tactic(auto)]
+
 pub mod checks;
 pub mod classes;
 pub mod elements;

@@ -8,11 +8,11 @@ use Rattle.value.proofs.digits.number.Goals as goal
 pub returns-then-not-has : goal.returns-then-not-has
 returns-then-not-has c = let t = every_turn is_digit c.args.v.now c.loop-b.b-index (omega arith) in grind (arith, nat_tests)
 
-pub overflow-mul-value : goal.overflow-mul-value
-overflow-mul-value c = omega (arith, fits_19 _ _ (below_ten_more c.loop-b.value 0 c.loop-b.b-index c.loop-b.invariant.0 (omega arith)) (omega arith))
+pub overflow_mul-value : goal.overflow_mul-value
+overflow_mul-value c = omega (arith, fits_19 _ _ (below_ten_more c.loop-b.value 0 c.loop-b.b-index c.loop-b.invariant.0 (omega arith)) (omega arith))
 
-pub overflow-add-value : goal.overflow-add-value
-overflow-add-value c =
+pub overflow_add-value : goal.overflow_add-value
+overflow_add-value c =
     let d : c.from.result ≤ 9 = grind (arith, nat_tests) in
     omega (arith, fits_19 _ _ (below_ten_more c.loop-b.value c.from.result c.loop-b.b-index c.loop-b.invariant.0 d) (omega arith))
 

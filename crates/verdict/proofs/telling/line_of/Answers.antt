@@ -17,8 +17,8 @@ loop-number-init c =
     let e : text_of c.loop-byte.line ≡ c.args.word.now = c.loop-byte.invariant ∙ take_all _ word (omega arith) in
     (omega (arith, ap length e), ap (λ l. l ++ numbers c.args.all.now) e)
 
-pub push-number-requires : goal.push-number-requires
-push-number-requires c =
+pub push_number-requires : goal.push_number-requires
+push_number-requires c =
     let fits : get_or c.args.all.now c.loop-number.number-index 0 < 2 ^ 64 = search rules in
     omega (arith, digits_fit _ fits, ap length c.push-in-loop-number.ensures, length_push (text_of c.loop-number.line) 32)
 
@@ -27,11 +27,11 @@ loop-number-preserved c =
     let all = c.args.all.now in
     let i = c.loop-number.number-index in
     let before = text_of c.loop-number.line in
-    let after = text_of c.push-number.new.self in
+    let after = text_of c.push_number.new.self in
     let lt : c.loop-number.number-index < length c.args.all.now = omega arith in
     let fits : get_or c.args.all.now c.loop-number.number-index 0 < 2 ^ 64 = search rules in
-    let more : More (text_of c.loop-number.line) (text_of c.push-number.new.self) (get_or c.args.all.now c.loop-number.number-index 0) =
-    c.push-number.ensures ∙ ap (λ l. l ++ decimal (get_or c.args.all.now c.loop-number.number-index 0)) c.push-in-loop-number.ensures in
+    let more : More (text_of c.loop-number.line) (text_of c.push_number.new.self) (get_or c.args.all.now c.loop-number.number-index 0) =
+    c.push_number.ensures ∙ ap (λ l. l ++ decimal (get_or c.args.all.now c.loop-number.number-index 0)) c.push-in-loop-number.ensures in
     (omega (arith, more_length before after _ fits more, c.loop-number.invariant.0), more_numbers before after all i lt more ∙ c.loop-number.invariant.1)
 
 pub returns : goal.returns

@@ -7,8 +7,8 @@ use Rattle.x12.proofs.Headers.{never_ok, check_sound, sound_check}
 use Rattle.x12.proofs.Picks.{nth_first}
 use Rattle.x12.proofs.elements.element.Goals as goal
 
-pub returns-in-default : goal.returns-in-default
-returns-in-default c s = absurd (never_ok (cause_of c.in-default.field-0) tt (sym c.in-default.ensures ∙ sound_check c.args.interchange.now s))
+pub returns-in_default : goal.returns-in_default
+returns-in_default c s = absurd (never_ok (cause_of c.in_default.field-0) tt (sym c.in_default.ensures ∙ sound_check c.args.interchange.now s))
 
 pub returns-then-segment-eq0 : goal.returns-then-segment-eq0
 returns-then-segment-eq0 c s = no_zeroth c.args.interchange.now c.args.segment c.args.number c.if-segment-eq0.true
@@ -25,4 +25,4 @@ returns-then-left-eq1 c =
     (check_sound c.args.interchange.now tt d.0) d.1
     (c.loop-found.invariant.2 ∙ nth_first (segment (s.place, s.bytes.now) s.closed) (segments_from t (s.place + length s.bytes.now + 1) I) (segments_from t c.loop-found.at I) c.loop-found.left f.next c.if-left-eq1.true)
     f.inside f.part
-    (λ (e : Element). e.place) (λ (e : Element). e.bytes.now) c.element-in.result c.element-in.ensures
+    (λ (e : Element). e.place) (λ (e : Element). e.bytes.now) c.element_in.result c.element_in.ensures

@@ -3,8 +3,8 @@ use Rattle.x12.specs.Header.{placed_at}
 use Rattle.x12.proofs.Headers.{laid_out, not_laid_out}
 use Rattle.x12.proofs.header.is_laid_out.Goals as goal
 
-pub returns-then-not-is-placed : goal.returns-then-not-is-placed
-returns-then-not-is-placed c = not_laid_out c.args.interchange.now c.loop-i.i c.loop-i-test.true (search rules)
+pub returns-then-not-is_placed : goal.returns-then-not-is_placed
+returns-then-not-is_placed c = not_laid_out c.args.interchange.now c.loop-i.i c.loop-i-test.true (search rules)
 
 pub returns : goal.returns
 returns c = laid_out c.args.interchange.now (λ k l. c.loop-i.invariant k (omega arith))

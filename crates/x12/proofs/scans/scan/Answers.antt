@@ -8,30 +8,30 @@ use Rattle.x12.proofs.Meets.{header_refused, body_refused, body_passed}
 use Rattle.x12.proofs.Turns.{each_stop}
 use Rattle.x12.proofs.scans.scan.Goals as goal
 
-pub returns-in-err-delimiters : goal.returns-in-err-delimiters
-returns-in-err-delimiters c =
-    let p = err_from_is_err_and c.from-residual.result c.from-residual.ensures.1 in
-    rw (p.1, p.2) (header_refused c.args.interchange.now (cause_of c.in-err-delimiters.field-0.0) c.in-err-delimiters.ensures)
+pub returns-in_err-delimiters : goal.returns-in_err-delimiters
+returns-in_err-delimiters c =
+    let p = err_from_is_err_and c.from_residual.result c.from_residual.ensures.1 in
+    rw (p.1, p.2) (header_refused c.args.interchange.now (cause_of c.in_err-delimiters.field-0.0) c.in_err-delimiters.ensures)
 
-pub returns-in-err-check-segment : goal.returns-in-err-check-segment
-returns-in-err-check-segment c =
+pub returns-in_err-check_segment : goal.returns-in_err-check_segment
+returns-in_err-check_segment c =
     let I = c.args.interchange.now in
-    let t = c.in-ok-delimiters.delimiters.terminator in
+    let t = c.in_ok-delimiters.delimiters.terminator in
     let s = c.in-Some.segment in
-    let f = cause_of c.in-err-check-segment.field-0.0 in
-    let d = c.in-ok-delimiters.ensures in
-    let p = err_from_is_err_and c.from-residual-in-err-check-segment.result c.from-residual-in-err-check-segment.ensures.1 in
+    let f = cause_of c.in_err-check_segment.field-0.0 in
+    let d = c.in_ok-delimiters.ensures in
+    let p = err_from_is_err_and c.from_residual-in_err-check_segment.result c.from_residual-in_err-check_segment.ensures.1 in
     rw (p.1, p.2)
-    (body_refused c.args.interchange.now c.in-ok-delimiters.delimiters.separator c.in-ok-delimiters.delimiters.component d.1 d.2 tt d.0 f
+    (body_refused c.args.interchange.now c.in_ok-delimiters.delimiters.separator c.in_ok-delimiters.delimiters.component d.1 d.2 tt d.0 f
     (sym c.loop-segment.invariant.3
-    ∙ each_stop (segment_check c.in-ok-delimiters.delimiters.separator c.in-ok-delimiters.delimiters.component) (c.loop-segment.count + 1) (segment (s.place, s.bytes.now) s.closed) (segments_from t (s.place + length s.bytes.now + 1) I) (segments_from t c.loop-segment.at I) f c.in-Some.ensures.next c.in-err-check-segment.ensures))
+    ∙ each_stop (segment_check c.in_ok-delimiters.delimiters.separator c.in_ok-delimiters.delimiters.component) (c.loop-segment.count + 1) (segment (s.place, s.bytes.now) s.closed) (segments_from t (s.place + length s.bytes.now + 1) I) (segments_from t c.loop-segment.at I) f c.in-Some.ensures.next c.in_err-check_segment.ensures))
 
 pub returns : goal.returns
 returns c =
-    let d = c.in-ok-delimiters.ensures in
-    let e = c.in-default.ensures in (
-      body_passed c.args.interchange.now c.in-ok-delimiters.delimiters.separator c.in-ok-delimiters.delimiters.component d.1 d.2 tt d.0 tt
+    let d = c.in_ok-delimiters.ensures in
+    let e = c.in_default.ensures in (
+      body_passed c.args.interchange.now c.in_ok-delimiters.delimiters.separator c.in_ok-delimiters.delimiters.component d.1 d.2 tt d.0 tt
           (sym c.loop-segment.invariant.3
-          ∙ ap (each (segment_check c.in-ok-delimiters.delimiters.separator c.in-ok-delimiters.delimiters.component) (c.loop-segment.count + 1)) e),
+          ∙ ap (each (segment_check c.in_ok-delimiters.delimiters.separator c.in_ok-delimiters.delimiters.component) (c.loop-segment.count + 1)) e),
       sym (add-zero c.loop-segment.count) ∙ ap (λ (l : List Segment). c.loop-segment.count + length l) (sym e) ∙ c.loop-segment.invariant.2,
     )

@@ -3,8 +3,8 @@ use Rattle.std.proofs.lemmas.List.{take_more_set}
 use Rattle.seen.proofs.Lasts.{headed_add, chained_add}
 use Rattle.seen.proofs.chains.Chains.add.Goals as goal
 
-pub invariant-of-self : goal.invariant-of-self
-invariant-of-self c =
+pub invariant_of-self : goal.invariant_of-self
+invariant_of-self c =
     let s = c.args.self.now in
     let n = s.count in
     let b = c.args.bucket in

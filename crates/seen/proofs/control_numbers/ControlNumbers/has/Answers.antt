@@ -5,14 +5,14 @@ use Rattle.seen.proofs.Kept.{length_kept, at_kept}
 use Rattle.seen.proofs.Comes.{came_at, came_none}
 use Rattle.seen.proofs.control_numbers.ControlNumbers.has.Goals as goal
 
-pub returns-then-same-bytes : goal.returns-then-same-bytes
-returns-then-same-bytes c =
+pub returns-then-same_bytes : goal.returns-then-same_bytes
+returns-then-same_bytes c =
     let s = c.args.self.now in
     let v = c.args.number.now in
     let i = c.loop-i.i in
     let room : c.args.self.now.count ≤ length c.args.self.now.all = omega (arith, s.fits, s.whole) in
     let lt : c.loop-i.i < c.args.self.now.count = omega arith in
-    sym (came_at v (numbers_of s) i (omega (arith, length_kept s.all s.count room)) (ap (bytes_eq v) (at_kept s.all s.count i _ _ lt room) ∙ sym c.if-same-bytes.ensures.test))
+    sym (came_at v (numbers_of s) i (omega (arith, length_kept s.all s.count room)) (ap (bytes_eq v) (at_kept s.all s.count i _ _ lt room) ∙ sym c.if-same_bytes.ensures.test))
 
 pub loop-i-preserved : goal.loop-i-preserved
 loop-i-preserved c =
@@ -21,7 +21,7 @@ loop-i-preserved c =
     let i = c.loop-i.i in
     let room : c.args.self.now.count ≤ length c.args.self.now.all = omega (arith, s.fits, s.whole) in
     let lt : c.loop-i.i < c.args.self.now.count = omega arith in
-    below_more _ _ c.loop-i.invariant (ap (bytes_eq v) (at_kept s.all s.count i _ _ lt room) ∙ sym c.if-same-bytes.ensures.test)
+    below_more _ _ c.loop-i.invariant (ap (bytes_eq v) (at_kept s.all s.count i _ _ lt room) ∙ sym c.if-same_bytes.ensures.test)
 
 pub returns : goal.returns
 returns c =

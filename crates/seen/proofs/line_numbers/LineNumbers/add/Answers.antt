@@ -13,15 +13,15 @@ pub add-requires : goal.add-requires
 add-requires c =
     let s = c.args.self.now in
     let room : c.args.self.now.chains.count ≤ length c.args.self.now.room.all = omega (arith, s.whole, s.chains.fits) in
-    (omega (arith, length_kept s.room.all s.chains.count room), c.bucket-of.ensures.fits)
+    (omega (arith, length_kept s.room.all s.chains.count room), c.bucket_of.ensures.fits)
 
-pub invariant-of-self : goal.invariant-of-self
-invariant-of-self c =
+pub invariant_of-self : goal.invariant_of-self
+invariant_of-self c =
     let s = c.args.self.now in
     let full : c.args.self.now.chains.count ≤ length c.args.self.now.room.all = omega (arith, s.whole, s.chains.fits) in
     let room : c.count.result < length c.args.self.now.room.all = omega (arith, s.whole, c.count.ensures, length_kept s.room.all s.chains.count full) in (
       length-set s.room.all c.count.result c.args.number ∙ s.whole,
-      (spread_add s.chains c.add.new.self s.room.all c.count.result c.bucket-of.result c.args.number c.count.ensures room c.add.ensures c.bucket-of.ensures.is s.spread, tt),
+      (spread_add s.chains c.add.new.self s.room.all c.count.result c.bucket_of.result c.args.number c.count.ensures room c.add.ensures c.bucket_of.ensures.is s.spread, tt),
     )
 
 pub returns : goal.returns
@@ -29,4 +29,4 @@ returns c =
     let s = c.args.self.now in
     let full : c.args.self.now.chains.count ≤ length c.args.self.now.room.all = omega (arith, s.whole, s.chains.fits) in
     let room : c.count.result < length c.args.self.now.room.all = omega (arith, s.whole, c.count.ensures, length_kept s.room.all s.chains.count full) in
-    kept_add s.chains c.add.new.self s.room.all c.count.result c.bucket-of.result c.args.number c.count.ensures room c.add.ensures
+    kept_add s.chains c.add.new.self s.room.all c.count.result c.bucket_of.result c.args.number c.count.ensures room c.add.ensures

@@ -3,8 +3,8 @@ use Rattle.seen.specs.Buckets.{bucket_number}
 use Rattle.seen.proofs.Spreads.{none_kept}
 use Rattle.seen.proofs.line_numbers.LineNumbers.clear.Goals as goal
 
-pub invariant-of-self : goal.invariant-of-self
-invariant-of-self c =
+pub invariant_of-self : goal.invariant_of-self
+invariant_of-self c =
     let s = c.args.self.now in
     (s.whole, (ap (map bucket_number) (none_kept c.clear.new.self s.room.all c.clear.ensures) ∙ sym c.clear.ensures, tt))
 

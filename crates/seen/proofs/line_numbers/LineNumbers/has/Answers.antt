@@ -14,11 +14,11 @@ loop-place-init c =
     let v = c.args.number.now in
     let room : c.args.self.now.chains.count ≤ length c.args.self.now.room.all = omega (arith, s.whole, s.chains.fits) in
     let start = walk_start (numbers_of s) (buckets_of s.chains) v s.spread s.chains.count (sym (length_kept s.room.all s.chains.count room)) in
-    let e = c.last-place.ensures ∙ ap (λ b. last_of (buckets_of s.chains) b s.chains.count) c.bucket-of.ensures.is in
+    let e = c.last-place.ensures ∙ ap (λ b. last_of (buckets_of s.chains) b s.chains.count) c.bucket_of.ensures.is in
     subst (Walk (numbers_of s) (buckets_of s.chains) v) (sym e) start
 
-pub offset-bounds-self-place : goal.offset-bounds-self-place
-offset-bounds-self-place c =
+pub offset_bounds-self-place : goal.offset_bounds-self-place
+offset_bounds-self-place c =
     let s = c.args.self.now in
     let room : c.args.self.now.chains.count ≤ length c.args.self.now.room.all = omega (arith, s.whole, s.chains.fits) in
     let small : c.loop-place.place ≤ 16384 = omega (arith, s.chains.fits, c.loop-place.invariant.within, length_kept s.room.all s.chains.count room) in
@@ -30,15 +30,15 @@ bounds-self-place c =
     let room : c.args.self.now.chains.count ≤ length c.args.self.now.room.all = omega (arith, s.whole, s.chains.fits) in
     omega (arith, s.chains.fits, c.loop-place.invariant.within, length_kept s.room.all s.chains.count room)
 
-pub returns-then-same-bytes : goal.returns-then-same-bytes
-returns-then-same-bytes c =
+pub returns-then-same_bytes : goal.returns-then-same_bytes
+returns-then-same_bytes c =
     let s = c.args.self.now in
     let v = c.args.number.now in
     let i = c.loop-place.place - 1 in
     let room : c.args.self.now.chains.count ≤ length c.args.self.now.room.all = omega (arith, s.whole, s.chains.fits) in
     let kept = length_kept s.room.all s.chains.count room in
     let lt : c.loop-place.place - 1 < c.args.self.now.chains.count = omega (arith, c.loop-place.invariant.within, kept) in
-    sym (came_at v (numbers_of s) i (omega (arith, kept)) (ap (bytes_eq v) (at_kept s.room.all s.chains.count i [] _ lt room) ∙ sym c.if-same-bytes.ensures.test))
+    sym (came_at v (numbers_of s) i (omega (arith, kept)) (ap (bytes_eq v) (at_kept s.room.all s.chains.count i [] _ lt room) ∙ sym c.if-same_bytes.ensures.test))
 
 pub before-place-requires : goal.before-place-requires
 before-place-requires c =
@@ -58,7 +58,7 @@ loop-place-preserved c =
     let i = c.loop-place.place - 1 in
     let room : c.args.self.now.chains.count ≤ length c.args.self.now.room.all = omega (arith, s.whole, s.chains.fits) in
     let lt : c.loop-place.place - 1 < c.args.self.now.chains.count = omega (arith, c.loop-place.invariant.within, length_kept s.room.all s.chains.count room) in
-    let other = ap (bytes_eq v) (at_kept s.room.all s.chains.count i [] _ lt room) ∙ sym c.if-same-bytes.ensures.test in
+    let other = ap (bytes_eq v) (at_kept s.room.all s.chains.count i [] _ lt room) ∙ sym c.if-same_bytes.ensures.test in
     let more = walk_more (numbers_of s) (buckets_of s.chains) v s.spread c.loop-place.place c.loop-place.invariant c.loop-place-test.true other in
     subst (Walk (numbers_of s) (buckets_of s.chains) v) (sym c.before-place.ensures) more
 

@@ -3,8 +3,8 @@ use Rattle.seen.specs.Buckets.{bucket_number}
 use Rattle.seen.proofs.Spreads.{none_kept}
 use Rattle.seen.proofs.line_numbers.LineNumbers.new.Goals as goal
 
-pub invariant-of-result : goal.invariant-of-result
-invariant-of-result c = (refl, (ap (map bucket_number) (none_kept c.new.result _ c.new.ensures) ∙ sym c.new.ensures, tt))
+pub invariant_of-result : goal.invariant_of-result
+invariant_of-result c = (refl, (ap (map bucket_number) (none_kept c.new.result _ c.new.ensures) ∙ sym c.new.ensures, tt))
 
 pub returns : goal.returns
 returns c = none_kept c.new.result _ c.new.ensures
