@@ -30,7 +30,7 @@ struct Subject<'a> {
 
 // Whether the first two elements of BAK are filled and a wrong pair.
 fn is_wrong_pair<G: Guide>(guide: &G, first: &[u8], second: &[u8]) -> bool
-    ensures { result ≡ is_unlike_pair (meaning guide.now) first.now second.now }
+    ensures { result ≡ is_unlike_pair (G.meaning guide.now) first.now second.now }
 {
     is_filled(first) && is_filled(second) && matches!(guide.kind(first, second), Kind::Wrong)
 }
@@ -45,7 +45,7 @@ fn has_wrong_pair<G: Guide>(
     part: &[u8],
 ) -> bool
     requires { segment.place + length segment.bytes.now < 2 ^ 64 }
-    ensures { result ≡ is_in_wrong_pair (meaning guide.now) separator row (as_segment (segment.entry.place, segment.entry.bytes.now) segment.entry.closed) element part.now }
+    ensures { result ≡ is_in_wrong_pair (G.meaning guide.now) separator row (as_segment (segment.entry.place, segment.entry.bytes.now) segment.entry.closed) element part.now }
 {
     element == 2 && row == 2 && is_wrong_pair(guide, bytes_in(separator, segment, 1), part)
 }
@@ -59,8 +59,8 @@ fn check_named<G: Guide>(
     place: usize,
 ) -> Result<(), ElementFault>
     requires bytes_bound { subject.segment.place + length subject.segment.bytes.now < 2 ^ 64 }
-    requires limit_value { subject.limit ≡ limit_at (meaning guide.now) subject.row }
-    ensures { Answers cause_of_element result (first_of subject.entry.number element place (tests_with (meaning guide.now) subject.entry.separator subject.entry.row (as_segment (subject.entry.segment.place, subject.entry.segment.bytes.now) subject.entry.segment.closed) element part.now)) }
+    requires limit_value { subject.limit ≡ limit_at (G.meaning guide.now) subject.row }
+    ensures { Answers cause_of_element result (first_of subject.entry.number element place (tests_with (G.meaning guide.now) subject.entry.separator subject.entry.row (as_segment (subject.entry.segment.place, subject.entry.segment.bytes.now) subject.entry.segment.closed) element part.now)) }
 {
     let Subject {
         separator,
@@ -127,8 +127,8 @@ fn check_element<G: Guide>(
     place: usize,
 ) -> Result<(), ElementFault>
     requires bytes_bound { subject.segment.place + length subject.segment.bytes.now < 2 ^ 64 }
-    requires limit_value { subject.limit ≡ limit_at (meaning guide.now) subject.row }
-    ensures { Answers cause_of_element result (element_check (meaning guide.now) subject.entry.separator subject.entry.number subject.entry.row (as_segment (subject.entry.segment.place, subject.entry.segment.bytes.now) subject.entry.segment.closed) element (place, part.now)) }
+    requires limit_value { subject.limit ≡ limit_at (G.meaning guide.now) subject.row }
+    ensures { Answers cause_of_element result (element_check (G.meaning guide.now) subject.entry.separator subject.entry.number subject.entry.row (as_segment (subject.entry.segment.place, subject.entry.segment.bytes.now) subject.entry.segment.closed) element (place, part.now)) }
 {
     if element <= usize::from(subject.limit) {
         return check_named(guide, subject, element as u8, part, place);
@@ -146,11 +146,11 @@ fn check_element<G: Guide>(
 // The elements that the segment has, from 1 on, one after the other: the number of the next.
 fn check_present<G: Guide>(guide: &G, subject: Subject<'_>) -> Result<usize, ElementFault>
     requires bytes_bound { subject.segment.place + length subject.segment.bytes.now < 2 ^ 64 }
-    requires limit_value { subject.limit ≡ limit_at (meaning guide.now) subject.row }
+    requires limit_value { subject.limit ≡ limit_at (G.meaning guide.now) subject.row }
     ensures { MatchResult result
-        (λ n. (each (element_check (meaning guide.now) subject.entry.separator subject.entry.number subject.entry.row (as_segment (subject.entry.segment.place, subject.entry.segment.bytes.now) subject.entry.segment.closed)) 1 (present subject.entry.separator (as_segment (subject.entry.segment.place, subject.entry.segment.bytes.now) subject.entry.segment.closed)) ≡ Ok tt)
+        (λ n. (each (element_check (G.meaning guide.now) subject.entry.separator subject.entry.number subject.entry.row (as_segment (subject.entry.segment.place, subject.entry.segment.bytes.now) subject.entry.segment.closed)) 1 (present subject.entry.separator (as_segment (subject.entry.segment.place, subject.entry.segment.bytes.now) subject.entry.segment.closed)) ≡ Ok tt)
         × (n ≡ suc (length (present subject.entry.separator (as_segment (subject.entry.segment.place, subject.entry.segment.bytes.now) subject.entry.segment.closed)))))
-        (λ f. each (element_check (meaning guide.now) subject.entry.separator subject.entry.number subject.entry.row (as_segment (subject.entry.segment.place, subject.entry.segment.bytes.now) subject.entry.segment.closed)) 1 (present subject.entry.separator (as_segment (subject.entry.segment.place, subject.entry.segment.bytes.now) subject.entry.segment.closed)) ≡ Err (cause_of_element f)) }
+        (λ f. each (element_check (G.meaning guide.now) subject.entry.separator subject.entry.number subject.entry.row (as_segment (subject.entry.segment.place, subject.entry.segment.bytes.now) subject.entry.segment.closed)) 1 (present subject.entry.separator (as_segment (subject.entry.segment.place, subject.entry.segment.bytes.now) subject.entry.segment.closed)) ≡ Err (cause_of_element f)) }
 {
     let bytes = subject.segment.bytes;
     let mut at = find_from(bytes, 0, subject.separator);
@@ -174,8 +174,8 @@ fn check_present<G: Guide>(guide: &G, subject: Subject<'_>) -> Result<usize, Ele
 // The elements from number `from` on that the segment does not have, up to the limit; they stand at its end.
 fn check_absent<G: Guide>(guide: &G, subject: Subject<'_>, from: usize) -> Result<(), ElementFault>
     requires bytes_bound { subject.segment.place + length subject.segment.bytes.now < 2 ^ 64 }
-    requires limit_value { subject.limit ≡ limit_at (meaning guide.now) subject.row }
-    ensures { Answers cause_of_element result (each (element_check (meaning guide.now) subject.entry.separator subject.entry.number subject.entry.row (as_segment (subject.entry.segment.place, subject.entry.segment.bytes.now) subject.entry.segment.closed)) from (replicate (suc subject.entry.limit - from) (subject.entry.segment.place + length subject.entry.segment.bytes.now, []))) }
+    requires limit_value { subject.limit ≡ limit_at (G.meaning guide.now) subject.row }
+    ensures { Answers cause_of_element result (each (element_check (G.meaning guide.now) subject.entry.separator subject.entry.number subject.entry.row (as_segment (subject.entry.segment.place, subject.entry.segment.bytes.now) subject.entry.segment.closed)) from (replicate (suc subject.entry.limit - from) (subject.entry.segment.place + length subject.entry.segment.bytes.now, []))) }
 {
     let end = subject.segment.place + subject.segment.bytes.len();
     for element in from..usize::from(subject.limit) + 1 {
@@ -194,7 +194,7 @@ pub fn check_elements<G: Guide>(
     segment: Segment<'_>,
 ) -> Result<(), ElementFault>
     requires { segment.place + length segment.bytes.now < 2 ^ 64 }
-    ensures { Answers cause_of_element result (elements_check (meaning guide.now) separator number lacking row (as_segment (segment.entry.place, segment.entry.bytes.now) segment.entry.closed)) }
+    ensures { Answers cause_of_element result (elements_check (G.meaning guide.now) separator number lacking row (as_segment (segment.entry.place, segment.entry.bytes.now) segment.entry.closed)) }
 {
     if lacking {
         return Err(ElementFault::MissingRow {

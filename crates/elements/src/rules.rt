@@ -13,7 +13,7 @@ use x12::parts::Segment;
 
 // The rule of an element of the row; rows from 65 on are those of the envelope.
 pub(crate) fn rule_for<G: Guide>(guide: &G, row: u8, element: u8) -> Option<Limits>
-    ensures { result ≡ limits_at (meaning guide.now) row element }
+    ensures { result ≡ limits_at (G.meaning guide.now) row element }
 {
     match row {
         65 => isa_rule(element, guide.isa12()),
@@ -34,7 +34,7 @@ pub(crate) fn rule_for<G: Guide>(guide: &G, row: u8, element: u8) -> Option<Limi
 
 // Whether the value is a code of the element, or the element has a rule without codes.
 fn is_code_for<G: Guide>(guide: &G, row: u8, element: u8, value: &[u8]) -> bool
-    ensures { result ≡ admits_at (meaning guide.now) row element value.now }
+    ensures { result ≡ admits_at (G.meaning guide.now) row element value.now }
 {
     match row {
         65 => isa_code(element, value, guide.isa12()),
@@ -52,7 +52,7 @@ pub(crate) fn has_wrong_code<G: Guide>(
     rule: Option<Limits>,
     value: &[u8],
 ) -> bool
-    ensures { result ≡ wrong_code_by rule (admits_at (meaning guide.now) row element value.now) value.now }
+    ensures { result ≡ wrong_code_by rule (admits_at (G.meaning guide.now) row element value.now) value.now }
 {
     match rule {
         Some(limits) => is_judged(limits, value) && !is_code_for(guide, row, element, value),
@@ -62,7 +62,7 @@ pub(crate) fn has_wrong_code<G: Guide>(
 
 // The greatest number of an element that a rule of the row may name.
 pub(crate) fn limit_of<G: Guide>(guide: &G, row: u8) -> u8
-    ensures { result ≡ limit_at (meaning guide.now) row }
+    ensures { result ≡ limit_at (G.meaning guide.now) row }
 {
     let told = match guide.row(row) {
         Some(found) => found.elements,
@@ -81,8 +81,8 @@ pub(crate) fn is_asked<G: Guide>(
     element: u8,
 ) -> bool
     requires bytes_bound { segment.place + length segment.bytes.now < 2 ^ 64 }
-    requires limit_value { limit ≡ limit_at (meaning guide.now) row }
-    ensures { result ≡ asks_for (meaning guide.now) separator row (as_segment (segment.entry.place, segment.entry.bytes.now) segment.entry.closed) element }
+    requires limit_value { limit ≡ limit_at (G.meaning guide.now) row }
+    ensures { result ≡ asks_for (G.meaning guide.now) separator row (as_segment (segment.entry.place, segment.entry.bytes.now) segment.entry.closed) element }
 {
     if !guide.paired(row, element) {
         return false;

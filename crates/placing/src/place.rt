@@ -40,7 +40,7 @@ impl Placer {
         name: &[u8],
         first: &[u8],
     ) -> Option<Placed>
-        ensures { PlacesNext (meaning guide.now) self.old self.new segment (mark name.now first.now) result }
+        ensures { PlacesNext (G.meaning guide.now) self.old self.new segment (mark name.now first.now) result }
     {
         let Some(step) = next_step(guide, self, segment, name, first) else {
             return None;

@@ -11,8 +11,8 @@ use guide::rules::Row;
 // The row behind a place, if it stands in so many loops.
 fn row_behind<G: Guide>(guide: &G, place: u8, depth: usize) -> Option<Row>
     ensures { MatchOption result
-        (NoRowOfDepth depth (drop place (table_of (meaning guide.now))))
-        (λ row. RowBehind (meaning guide.now) place depth row) }
+        (NoRowOfDepth depth (drop place (table_of (G.meaning guide.now))))
+        (λ row. RowBehind (G.meaning guide.now) place depth row) }
 {
     if place >= 64 {
         return None;
@@ -36,7 +36,7 @@ struct Uses {
 
 // The uses of a row; a row that the guide does not have is never used.
 fn uses_of<G: Guide>(guide: &G, row: u8) -> Uses
-    ensures { (result.least ≡ least_of (meaning guide.now) row) × (result.greatest ≡ greatest_of (meaning guide.now) row) × (result.opens ≡ opens_of (meaning guide.now) row) }
+    ensures { (result.least ≡ least_of (G.meaning guide.now) row) × (result.greatest ≡ greatest_of (G.meaning guide.now) row) × (result.opens ≡ opens_of (G.meaning guide.now) row) }
 {
     match guide.row(row) {
         Some(found) => Uses {
@@ -56,9 +56,9 @@ fn uses_of<G: Guide>(guide: &G, row: u8) -> Uses
 // order; a row that must still be used stops the search. Then comes the row in use around them, once more, and what lies behind it.
 pub(crate) fn find<G: Guide>(guide: &G, set: &SetState, name: &[u8], first: &[u8]) -> Option<Choice>
     ensures bounded { IfSome result (λ choice. choice.depth ≤ 4) }
-    ensures right { (S : State) → Stands (meaning guide.now) set.now.place set.now.used set.now.depth S
-        → MatchOption result (Refuses (Fits (meaning guide.now)) S (name.now, first.now))
-        (λ choice. Chosen (meaning guide.now) set.now.used set.now.depth (name.now, first.now) S choice) }
+    ensures right { (S : State) → Stands (G.meaning guide.now) set.now.place set.now.used set.now.depth S
+        → MatchOption result (Refuses (Fits (G.meaning guide.now)) S (name.now, first.now))
+        (λ choice. Chosen (G.meaning guide.now) set.now.used set.now.depth (name.now, first.now) S choice) }
 {
     let mut depth = set.depth;
     let mut place = set.place;

@@ -85,7 +85,7 @@ fn inside<G: Guide>(
     name: &[u8],
     first: &[u8],
 ) -> Option<Step>
-    ensures { placer.now.phase ≡ Set → Steps (meaning guide.now) placer.now segment (mark name.now first.now) result }
+    ensures { placer.now.phase ≡ Set → Steps (G.meaning guide.now) placer.now segment (mark name.now first.now) result }
 {
     let Some(choice) = find(guide, &placer.set, name, first) else {
         return None;
@@ -111,8 +111,8 @@ fn begin_set<G: Guide>(
     name: &[u8],
     first: &[u8],
 ) -> Option<Step>
-    ensures { MatchOption result (fits_row (meaning guide.now) 1 name.now first.now ≡ false)
-        (λ step. (fits_row (meaning guide.now) 1 name.now first.now ≡ true) × SetBegins placer.now.groups sets step) }
+    ensures { MatchOption result (fits_row (G.meaning guide.now) 1 name.now first.now ≡ false)
+        (λ step. (fits_row (G.meaning guide.now) 1 name.now first.now ≡ true) × SetBegins placer.now.groups sets step) }
 {
     if !guide.fits(1, name, first) {
         return None;
@@ -155,7 +155,7 @@ pub(crate) fn next_step<G: Guide>(
     name: &[u8],
     first: &[u8],
 ) -> Option<Step>
-    ensures { Steps (meaning guide.now) placer.now segment (mark name.now first.now) result }
+    ensures { Steps (G.meaning guide.now) placer.now segment (mark name.now first.now) result }
 {
     match turn_of(placer.phase, name) {
         Turn::Isa => pass(placer, 65, Phase::Header, 0),

@@ -21,8 +21,8 @@ fn place_segments<G: Guide>(
 ) -> Result<usize, SegmentFault>
     ensures { delimiters.terminator ≡ terminator_of interchange.now → delimiters.separator ≡ separator_of interchange.now
         → MatchResult result
-        (λ n. NoneOf (StructureMet (meaning guide.now) interchange.now) × (n ≡ length (segments_of interchange.now)))
-        (λ f. First (StructureMet (meaning guide.now) interchange.now) (cause_of_segment f)) }
+        (λ n. NoneOf (StructureMet (G.meaning guide.now) interchange.now) × (n ≡ length (segments_of interchange.now)))
+        (λ f. First (StructureMet (G.meaning guide.now) interchange.now) (cause_of_segment f)) }
 {
     let mut placer = Placer::start();
     let mut count = 0;
@@ -51,8 +51,8 @@ fn place_segments<G: Guide>(
 // How many segments an interchange has that meets no fault of bytes or of structure under the guide; else the first of these faults that it meets.
 pub fn check_structure<G: Guide>(guide: &G, interchange: &[u8]) -> Result<usize, SegmentFault>
     ensures { MatchResult result
-        (λ n. NoneOf (SegmentMet (meaning guide.now) interchange.now) × (n ≡ length (segments_of interchange.now)))
-        (λ f. First (SegmentMet (meaning guide.now) interchange.now) (cause_of_segment f)) }
+        (λ n. NoneOf (SegmentMet (G.meaning guide.now) interchange.now) × (n ≡ length (segments_of interchange.now)))
+        (λ f. First (SegmentMet (G.meaning guide.now) interchange.now) (cause_of_segment f)) }
 {
     let delimiters = read_header(interchange)?;
     let placed = place_segments(guide, interchange, delimiters);

@@ -36,8 +36,8 @@ pub(crate) fn judge<G: Guide>(
     requires interchange_value { header_check interchange.now ≡ Ok tt }
     requires separator_value { (delimiters.separator ≡ separator_of interchange.now) × ((delimiters.component ≡ component_of interchange.now) × (delimiters.terminator ≡ terminator_of interchange.now)) }
     ensures { MatchResult result
-        (λ j. JudgedSo (meaning guide.now) interchange.now j)
-        (λ f. First (Met (meaning guide.now) interchange.now) (cause_of_totals f)) }
+        (λ j. JudgedSo (G.meaning guide.now) interchange.now j)
+        (λ f. First (Met (G.meaning guide.now) interchange.now) (cause_of_totals f)) }
 {
     let mut placer = Placer::start();
     let mut tally = Tally::new();

@@ -17,7 +17,7 @@ pub fn read<G: Guide>(
     segments: &mut [SegmentRow],
     loops: &mut [LoopRow],
 ) -> Result<Totals, ReadingFault>
-    ensures { ReadingIs (meaning guide.now) interchange.now segments.old segments.new loops.old loops.new result }
+    ensures { ReadingIs (G.meaning guide.now) interchange.now segments.old segments.new loops.old loops.new result }
 {
     let delimiters = match read_header(interchange) {
         Ok(delimiters) => delimiters,

@@ -34,7 +34,7 @@ fn place_segment<G: Guide>(
 ) -> Result<Placed, SegmentFault>
     requires { segment.place + length segment.bytes.now < 2 ^ 64 }
     ensures { (o : Option PlacedAt)
-        × PlacesNext (meaning guide.now) placer.old placer.new number (mark_in delimiters.separator (as_segment (segment.entry.place, segment.entry.bytes.now) segment.entry.closed)) o
+        × PlacesNext (G.meaning guide.now) placer.old placer.new number (mark_in delimiters.separator (as_segment (segment.entry.place, segment.entry.bytes.now) segment.entry.closed)) o
         × AnswersWith cause_of_segment result (place_check delimiters.separator delimiters.component number (as_segment (segment.entry.place, segment.entry.bytes.now) segment.entry.closed) o) }
 {
     let name = bytes_in(delimiters.separator, segment, 0);
@@ -61,10 +61,10 @@ fn judge_elements<G: Guide>(
 ) -> Result<Placed, ElementFault>
     requires { segment.place + length segment.bytes.now < 2 ^ 64 }
     ensures { (o : Option PlacedAt)
-        × PlacesNext (meaning guide.now) placer.old placer.new number (mark_in delimiters.separator (as_segment (segment.entry.place, segment.entry.bytes.now) segment.entry.closed)) o
-        × ((z : List PlacedSegment) → TallyIs (meaning guide.now) delimiters.separator z tally.now
+        × PlacesNext (G.meaning guide.now) placer.old placer.new number (mark_in delimiters.separator (as_segment (segment.entry.place, segment.entry.bytes.now) segment.entry.closed)) o
+        × ((z : List PlacedSegment) → TallyIs (G.meaning guide.now) delimiters.separator z tally.now
         → AnswersWith cause_of_element result (and_then (place_check delimiters.separator delimiters.component number (as_segment (segment.entry.place, segment.entry.bytes.now) segment.entry.closed) o)
-        (λ placed. and_then (elements_check (meaning guide.now) delimiters.separator number (is_row_lacking (meaning guide.now) delimiters.separator z (as_segment (segment.entry.place, segment.entry.bytes.now) segment.entry.closed, spot_for placed)) placed.row (as_segment (segment.entry.place, segment.entry.bytes.now) segment.entry.closed))
+        (λ placed. and_then (elements_check (G.meaning guide.now) delimiters.separator number (is_row_lacking (G.meaning guide.now) delimiters.separator z (as_segment (segment.entry.place, segment.entry.bytes.now) segment.entry.closed, spot_for placed)) placed.row (as_segment (segment.entry.place, segment.entry.bytes.now) segment.entry.closed))
         (λ u. Ok placed)))) }
 {
     let placed = place_segment(guide, delimiters, number, placer, segment)?;
@@ -91,9 +91,9 @@ pub(crate) fn judge_segment<'a, G: Guide>(
     segment: Segment<'a>,
 ) -> Result<Placed, TotalsFault>
     requires bytes_bound { segment.place + length segment.bytes.now < 2 ^ 64 }
-    requires stands { (z : List PlacedSegment) × Stands (meaning guide.now) delimiters.separator number z placer.old tally.old }
-    ensures { (z : List PlacedSegment) → Stands (meaning guide.now) delimiters.separator number z placer.old tally.old
-        → TurnIs (meaning guide.now) delimiters.separator delimiters.component number z (as_segment (segment.entry.place, segment.entry.bytes.now) segment.entry.closed) placer.new tally.new result }
+    requires stands { (z : List PlacedSegment) × Stands (G.meaning guide.now) delimiters.separator number z placer.old tally.old }
+    ensures { (z : List PlacedSegment) → Stands (G.meaning guide.now) delimiters.separator number z placer.old tally.old
+        → TurnIs (G.meaning guide.now) delimiters.separator delimiters.component number z (as_segment (segment.entry.place, segment.entry.bytes.now) segment.entry.closed) placer.new tally.new result }
 {
     let placed = judge_elements(guide, delimiters, number, placer, tally, segment)?;
     tally.check(guide, delimiters.separator, number, placed, segment)?;

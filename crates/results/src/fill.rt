@@ -18,7 +18,7 @@ pub fn fill<G: Guide>(
     loops: &mut [LoopRow],
 )
     ensures { (z : List PlacedSegment)
-        → Fitting (meaning guide.now) interchange.now delimiters.terminator delimiters.separator (length segments.old) (length loops.old) z
+        → Fitting (G.meaning guide.now) interchange.now delimiters.terminator delimiters.separator (length segments.old) (length loops.old) z
         → Filled z segments.old loops.old segments.new loops.new }
 {
     let counts = write_rows(guide, interchange, delimiters, segments, loops);

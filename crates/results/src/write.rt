@@ -64,7 +64,7 @@ pub(crate) fn write_rows<G: Guide>(
 ) -> Counts
     ensures within { (result.segments ≤ length segments.old) × (result.loops ≤ length loops.old) }
     ensures begun { (z : List PlacedSegment)
-        → Fitting (meaning guide.now) interchange.now delimiters.terminator delimiters.separator (length segments.old) (length loops.old) z
+        → Fitting (G.meaning guide.now) interchange.now delimiters.terminator delimiters.separator (length segments.old) (length loops.old) z
         → Begun z segments.old loops.old segments.new loops.new result }
 {
     let mut placer = Placer::start();

@@ -93,7 +93,7 @@ impl<'a> Tally<'a> {
         second: Element<'_>,
     ) -> Result<(), TotalsFault>
         requires { SmallCounts self.now.counts }
-        ensures { Answers cause_of_totals result (totals_by number place ((meaning guide.now).held && is_unlike_close self.now.line placed.outer)
+        ensures { Answers cause_of_totals result (totals_by number place ((G.meaning guide.now).held && is_unlike_close self.now.line placed.outer)
             first.entry.place (differs (counted_by self.now.counts placed.row name.now) first.entry.bytes.now)
             (bytes_eq name.now (codes "PO1") && came_before first.entry.bytes.now (line_numbers_of self.now.line_numbers))
             second.entry.place (unlike_control (repeated_by self.now.controls.isa13.now self.now.controls.gs06.now self.now.controls.st02.now placed.row name.now) second.entry.bytes.now)
@@ -174,8 +174,8 @@ impl<'a> Tally<'a> {
     ) -> Result<(), TotalsFault>
         requires bytes_bound { segment.place + length segment.bytes.now < 2 ^ 64 }
         requires small_counts { SmallCounts self.now.counts }
-        ensures { (z : List PlacedSegment) → TallyIs (meaning guide.now) separator z self.now
-            → Answers cause_of_totals result (totals_check (meaning guide.now) separator number z (as_segment (segment.entry.place, segment.entry.bytes.now) segment.entry.closed, spot_for placed)) }
+        ensures { (z : List PlacedSegment) → TallyIs (G.meaning guide.now) separator z self.now
+            → Answers cause_of_totals result (totals_check (G.meaning guide.now) separator number z (as_segment (segment.entry.place, segment.entry.bytes.now) segment.entry.closed, spot_for placed)) }
     {
         let name = bytes_in(separator, segment, 0);
         let first = part_in(separator, segment, 1);
@@ -197,8 +197,8 @@ impl<'a> Tally<'a> {
         requires some { IfSome self.old.line (λ l. l.given ≤ 655370000000000) }
         requires set_numbers_len_bound { placed.row ≡ 1 → length (control_numbers_of self.old.set_numbers) < 256 }
         requires line_numbers_len_bound { length (line_numbers_of self.old.line_numbers) < 16384 }
-        ensures { (z : List PlacedSegment) → number ≡ suc (length z) → TallyIs (meaning guide.now) separator z self.old
-            → TallyIs (meaning guide.now) separator (z ++ ((as_segment (segment.entry.place, segment.entry.bytes.now) segment.entry.closed, spot_for placed) ∷ [])) self.new }
+        ensures { (z : List PlacedSegment) → number ≡ suc (length z) → TallyIs (G.meaning guide.now) separator z self.old
+            → TallyIs (G.meaning guide.now) separator (z ++ ((as_segment (segment.entry.place, segment.entry.bytes.now) segment.entry.closed, spot_for placed) ∷ [])) self.new }
     {
         let name = bytes_in(separator, segment, 0);
         let first = bytes_in(separator, segment, 1);

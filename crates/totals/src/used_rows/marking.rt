@@ -20,7 +20,7 @@ impl UsedRows {
     pub(crate) fn mark<G: Guide>(&mut self, guide: &G, row: u8, second: &[u8])
         ensures byte { row < 256 }
         ensures used { self.new.used ≡ slice_set (cond (row == 1) (replicate 256 false) self.old.used) row true }
-        ensures needed { self.new.needed ≡ (if nat_eq row 2 then (meaning guide.now).needed second.now else self.old.needed) }
+        ensures needed { self.new.needed ≡ (if nat_eq row 2 then (G.meaning guide.now).needed second.now else self.old.needed) }
     {
         let mut used = if row == 1 { [false; 256] } else { self.used };
         used[usize::from(row)] = true;

@@ -42,7 +42,7 @@ returns-then-depth-eq0 g c = record {
       let m = g.G.Guide.meaning c.args.guide.now in
       let z : c.loop-row.depth ≡ 0 = c.if-depth-eq0.true in
       ends m c.args.set.now.used (c.args.name.now, c.args.first.now) S c.loop-row.place
-      (subst (λ (d : ℕ). NoRowOfDepth d (drop c.loop-row.place (table_of m))) z c.in-default.ensures)
+      (subst (λ (d : ℕ). NoRowOfDepth d (drop c.loop-row.place (table_of m))) z c.in_default.ensures)
       (subst (Search m c.args.set.now.used (c.args.name.now, c.args.first.now) S c.loop-row.place) z (c.loop-row.invariant.1 S t));
 }
 
@@ -51,7 +51,7 @@ returns-then-fits-2 g c =
     let m = g.G.Guide.meaning c.args.guide.now in
     let d = c.loop-row.depth in
     let p : d ≡ suc (d - 1) = omega arith in
-    let u = c.uses-of-uses.ensures in
+    let u = c.uses_of-uses.ensures in
     let inside = c.loop-row.invariant.0 in
     let few = c.args.set.now.few in
     record {
@@ -62,7 +62,7 @@ returns-then-fits-2 g c =
         u.2,
         t.1 (d - 1) (omega arith),
         takes_again m c.args.set.now.used (c.args.name.now, c.args.first.now) S c.loop-row.place (d - 1)
-            (subst (λ (k : ℕ). NoRowOfDepth k (drop c.loop-row.place (table_of m))) p c.in-default.ensures)
+            (subst (λ (k : ℕ). NoRowOfDepth k (drop c.loop-row.place (table_of m))) p c.in_default.ensures)
             (subst (λ (k : ℕ). (get_or c.args.set.now.used (d - 1) blank).count < k) u.1 c.if-used-uses.true)
             (subst (Search m c.args.set.now.used (c.args.name.now, c.args.first.now) S c.loop-row.place) p (c.loop-row.invariant.1 S t)),
       );
@@ -75,9 +75,9 @@ returns-then-used-uses-2 g c = record {
       let m = g.G.Guide.meaning c.args.guide.now in
       let d = c.loop-row.depth in
       let p : d ≡ suc (d - 1) = omega arith in
-      let u = c.uses-of-uses.ensures in
+      let u = c.uses_of-uses.ensures in
       stops_at_used m c.args.set.now.used (c.args.name.now, c.args.first.now) S c.loop-row.place (d - 1)
-      (subst (λ (k : ℕ). NoRowOfDepth k (drop c.loop-row.place (table_of m))) p c.in-default.ensures)
+      (subst (λ (k : ℕ). NoRowOfDepth k (drop c.loop-row.place (table_of m))) p c.in_default.ensures)
       (elim c.else-used-uses.branch [
         | else-used-uses-via-then-used-uses+else-fits-2 w ↦ inr (sym w.if-fits-2.ensures)
         | else-used-uses-via-else-used-uses w ↦ inl (subst (λ (k : ℕ). k ≤ (get_or c.args.set.now.used (d - 1) blank).count) u.1 w.if-used-uses.false)
@@ -91,11 +91,11 @@ loop-row-preserved g c =
     let m = g.G.Guide.meaning c.args.guide.now in
     let d = c.loop-row.depth in
     let p : d ≡ suc (d - 1) = omega arith in
-    let u = c.uses-of-uses.ensures in
+    let u = c.uses_of-uses.ensures in
     let inside = c.loop-row.invariant.0 in (
       omega arith,
       λ S t. leaves m c.args.set.now.used (c.args.name.now, c.args.first.now) S c.loop-row.place (d - 1)
-          (subst (λ (k : ℕ). NoRowOfDepth k (drop c.loop-row.place (table_of m))) p c.in-default.ensures)
+          (subst (λ (k : ℕ). NoRowOfDepth k (drop c.loop-row.place (table_of m))) p c.in_default.ensures)
           (elim c.else-used-uses.branch [
             | else-used-uses-via-then-used-uses+else-fits-2 w ↦ inr (sym w.if-fits-2.ensures)
             | else-used-uses-via-else-used-uses w ↦ inl (subst (λ (k : ℕ). k ≤ (get_or c.args.set.now.used (d - 1) blank).count) u.1 w.if-used-uses.false)

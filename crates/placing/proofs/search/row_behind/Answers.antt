@@ -5,8 +5,8 @@ use Rattle.placing.proofs.search.row_behind.Goals as goal
 pub returns-then-place-ge64 : goal.returns-then-place-ge64
 returns-then-place-ge64 g c = no_row_past (g.G.Guide.meaning c.args.guide.now) (g.G.Guide.lawful c.args.guide.now) c.args.place c.args.depth (omega arith)
 
-pub returns-in-default : goal.returns-in-default
-returns-in-default g c = no_row_told (g.G.Guide.meaning c.args.guide.now) c.args.place c.args.depth c.in-default.ensures
+pub returns-in_default : goal.returns-in_default
+returns-in_default g c = no_row_told (g.G.Guide.meaning c.args.guide.now) c.args.place c.args.depth c.in_default.ensures
 
 pub returns-then-from-depth : goal.returns-then-from-depth
 returns-then-from-depth g c = other_depth (g.G.Guide.meaning c.args.guide.now) c.args.place c.args.depth c.in-Some.row c.in-Some.ensures (λ e. c.if-from-depth.true (c.from.ensures ∙ e))

@@ -59,7 +59,7 @@ returns-in-FirstSt g c =
     let p = c.args.placer.now in
     let mk = mark c.args.name.now c.args.first.now in
     let t = tells p.phase c.args.name.now _ c.in-FirstSt.ensures in
-    begun m p c.args.segment mk c.begin-set.result p.groups 1 c.begin-set.ensures
+    begun m p c.args.segment mk c.begin_set.result p.groups 1 c.begin_set.ensures
     (λ f S st. no_first_st m w mk c.args.segment p.phase p.groups p.sets p.set.place p.set.used p.set.depth S t f st)
     (λ f S st vs. first_st m w mk c.args.segment p.phase p.groups p.sets p.set.place p.set.used p.set.depth S t f st vs)
 
@@ -70,7 +70,7 @@ returns-else-placer-ge256 g c =
     let p = c.args.placer.now in
     let mk = mark c.args.name.now c.args.first.now in
     let t = tells p.phase c.args.name.now _ c.in-NextSt.ensures in
-    begun m p c.args.segment mk c.begin-set-in-NextSt.result p.groups (p.sets + 1) c.begin-set-in-NextSt.ensures
+    begun m p c.args.segment mk c.begin_set-in-NextSt.result p.groups (p.sets + 1) c.begin_set-in-NextSt.ensures
     (λ f S st. no_next_st m w mk c.args.segment p.phase p.groups p.sets p.set.place p.set.used p.set.depth S t (inr f) st)
     (λ f S st vs. next_st m w mk c.args.segment p.phase p.groups p.sets p.set.place p.set.used p.set.depth S t (omega arith) f st vs)
 

@@ -18,19 +18,19 @@ sound_bytes : (m : Meaning) (I : List ℕ) (r : Result ℕ SegmentFault) → Non
 sound_bytes m I (Ok n) none x = (neither m I none x.0, x.1)
 sound_bytes m I (Err f) none x = structure_only m I (cause_of_segment f) none x
 
-pub returns-in-err-delimiters : goal.returns-in-err-delimiters
-returns-in-err-delimiters g c =
-    let p = err_from_is_err_and c.from-residual.result c.from-residual.ensures.1 in
-    rw (p.1, p.2) (header_first (g.G.Guide.meaning c.args.guide.now) c.args.interchange.now (cause_of c.in-err-delimiters.field-0.0) c.in-err-delimiters.ensures)
+pub returns-in_err-delimiters : goal.returns-in_err-delimiters
+returns-in_err-delimiters g c =
+    let p = err_from_is_err_and c.from_residual.result c.from_residual.ensures.1 in
+    rw (p.1, p.2) (header_first (g.G.Guide.meaning c.args.guide.now) c.args.interchange.now (cause_of c.in_err-delimiters.field-0.0) c.in_err-delimiters.ensures)
 
-pub returns-in-default : goal.returns-in-default
-returns-in-default g c =
-    let d = c.in-ok-delimiters.ensures in
-    sound_bytes (g.G.Guide.meaning c.args.guide.now) c.args.interchange.now c.place-segments-placed.result c.in-default.ensures.0 (c.place-segments-placed.ensures d.3 d.1)
+pub returns-in_default : goal.returns-in_default
+returns-in_default g c =
+    let d = c.in_ok-delimiters.ensures in
+    sound_bytes (g.G.Guide.meaning c.args.guide.now) c.args.interchange.now c.place_segments-placed.result c.in_default.ensures.0 (c.place_segments-placed.ensures d.3 d.1)
 
 pub returns-then-fault : goal.returns-then-fault
 returns-then-fault g c =
-    let d = c.in-ok-delimiters.ensures in
+    let d = c.in_ok-delimiters.ensures in
     let a = ap (λ (z : Fault). z.segment) c.fault.ensures in
     let b = ap (λ (z : Fault). z.segment) c.fault-in-Err-placed.ensures in
     let h = c.if-fault.true in
@@ -38,13 +38,13 @@ returns-then-fault g c =
 
 pub returns-else-fault : goal.returns-else-fault
 returns-else-fault g c =
-    let d = c.in-ok-delimiters.ensures in
+    let d = c.in_ok-delimiters.ensures in
     let a = ap (λ (z : Fault). z.segment) c.fault.ensures in
     let b = ap (λ (z : Fault). z.segment) c.fault-in-Err-placed.ensures in
     let h = c.if-fault.false in
     bytes_earlier (g.G.Guide.meaning c.args.guide.now) c.args.interchange.now (cause_of c.in-Err.bytes) (cause_of_segment c.in-Err-placed.misfit) c.in-Err.ensures (c.in-Err-placed.ensures d.3 d.1) (omega arith)
 
-pub returns-in-default-placed : goal.returns-in-default-placed
-returns-in-default-placed g c =
-    let d = c.in-ok-delimiters.ensures in
-    bytes_only (g.G.Guide.meaning c.args.guide.now) c.args.interchange.now (cause_of c.in-Err.bytes) c.in-Err.ensures (c.in-default-placed.ensures d.3 d.1).0
+pub returns-in_default-placed : goal.returns-in_default-placed
+returns-in_default-placed g c =
+    let d = c.in_ok-delimiters.ensures in
+    bytes_only (g.G.Guide.meaning c.args.guide.now) c.args.interchange.now (cause_of c.in-Err.bytes) c.in-Err.ensures (c.in_default-placed.ensures d.3 d.1).0

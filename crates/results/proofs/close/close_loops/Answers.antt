@@ -12,7 +12,7 @@ loop-i-preserved c =
     let old = c.args.loops.now in
     let l : c.loop-i.i < length old = c.loop-i-test.true in
     let x : LoopRow = get_or c.loop-i.loops c.loop-i.i none in
-    ap (λ (n : _). set c.loop-i.loops c.loop-i.i (record { opening = x.opening; last = n; outer = x.outer; row = x.row })) c.last-segment.ensures
+    ap (λ (n : _). set c.loop-i.loops c.loop-i.i (record { opening = x.opening; last = n; outer = x.outer; row = x.row })) c.last_segment.ensures
     ∙ ap (λ (y : LoopRow). set c.loop-i.loops c.loop-i.i (f y)) (next_row f c.loop-i.loops old c.loop-i.i none l c.loop-i.invariant)
     ∙ closes_more f c.loop-i.loops old c.loop-i.i none l c.loop-i.invariant
 

@@ -4,5 +4,5 @@ use Rattle.results.proofs.fill.fill.Goals as goal
 
 pub returns : goal.returns
 returns g c = λ z fit.
-    all_filled fit (c.write-rows-counts.ensures.begun z fit) (c.write-rows-counts.result.segments - 0) (c.write-rows-counts.result.loops - 0)
-    c.close-loops.new.loops c.number-loops.new.loops c.number-loops.new.segments (omega arith) (omega arith) c.close-loops.ensures c.number-loops.ensures
+    all_filled fit (c.write_rows-counts.ensures.begun z fit) (c.write_rows-counts.result.segments - 0) (c.write_rows-counts.result.loops - 0)
+    c.close_loops.new.loops c.number_loops.new.loops c.number_loops.new.segments (omega arith) (omega arith) c.close_loops.ensures c.number_loops.ensures

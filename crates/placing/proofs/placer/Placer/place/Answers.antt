@@ -3,11 +3,11 @@ use Rattle.placing.specs.Stages.{mark, spot_for}
 use Rattle.placing.proofs.Promise.{no_place, one_more, begins_now, gives}
 use Rattle.placing.proofs.placer.Placer.place.Goals as goal
 
-pub returns-in-default : goal.returns-in-default
-returns-in-default g c = λ before old e.
+pub returns-in_default : goal.returns-in_default
+returns-in_default g c = λ before old e.
     let m = g.G.Guide.meaning c.args.guide.now in
     let mk = mark c.args.name.now c.args.first.now in (
-      no_place m (g.G.Guide.lawful c.args.guide.now) c.args.self.now c.args.segment mk before old (c.in-default.ensures old.1 old.4),
+      no_place m (g.G.Guide.lawful c.args.guide.now) c.args.self.now c.args.segment mk before old (c.in_default.ensures old.1 old.4),
       refl,
     )
 

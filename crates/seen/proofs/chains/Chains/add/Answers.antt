@@ -11,16 +11,12 @@ invariant_of-self c =
     let whole = s.whole in
     let room : c.args.self.now.count < length c.args.self.now.buckets = omega (arith, whole.0) in
     let fits : c.args.self.now.count < length c.args.self.now.older = omega (arith, whole.1) in
-    let known : c.args.bucket < length c.args.self.now.heads = omega (arith, whole.2) in (
-      omega arith,
-      (
-        (length-set s.buckets n b ∙ whole.0, length-set s.older n (get_or s.heads b 0) ∙ whole.1, length-set s.heads b (n + 1) ∙ whole.2),
-        (
-          headed_add s.buckets s.heads n b room s.headed known,
-          (chained_add s.buckets s.heads n b room s.headed s.older fits (omega arith) s.chained, tt),
-        ),
-      ),
-    )
+    let known : c.args.bucket < length c.args.self.now.heads = omega (arith, whole.2) in record {
+      fits = omega arith;
+      whole = (length-set s.buckets n b ∙ whole.0, length-set s.older n (get_or s.heads b 0) ∙ whole.1, length-set s.heads b (n + 1) ∙ whole.2);
+      headed = headed_add s.buckets s.heads n b room s.headed known;
+      chained = chained_add s.buckets s.heads n b room s.headed s.older fits (omega arith) s.chained;
+    }
 
 pub returns : goal.returns
 returns c =

@@ -11,7 +11,7 @@ pub invariant_of-self-2 : goal.invariant_of-self-2
 invariant_of-self-2 c =
     let s = c.args.self.now in
     let room : c.args.self.now.count < 256 = omega (arith, s.fits, s.whole, length_kept s.all s.count (omega (arith, s.fits, s.whole))) in
-    (omega arith, (length-set s.all s.count c.args.number ∙ s.whole, tt))
+    record { fits = omega arith; whole = length-set s.all s.count c.args.number ∙ s.whole }
 
 pub returns : goal.returns
 returns c =

@@ -19,10 +19,10 @@ pub invariant_of-self : goal.invariant_of-self
 invariant_of-self c =
     let s = c.args.self.now in
     let full : c.args.self.now.chains.count ≤ length c.args.self.now.room.all = omega (arith, s.whole, s.chains.fits) in
-    let room : c.count.result < length c.args.self.now.room.all = omega (arith, s.whole, c.count.ensures, length_kept s.room.all s.chains.count full) in (
-      length-set s.room.all c.count.result c.args.number ∙ s.whole,
-      (spread_add s.chains c.add.new.self s.room.all c.count.result c.bucket_of.result c.args.number c.count.ensures room c.add.ensures c.bucket_of.ensures.is s.spread, tt),
-    )
+    let room : c.count.result < length c.args.self.now.room.all = omega (arith, s.whole, c.count.ensures, length_kept s.room.all s.chains.count full) in record {
+      whole = length-set s.room.all c.count.result c.args.number ∙ s.whole;
+      spread = spread_add s.chains c.add.new.self s.room.all c.count.result c.bucket_of.result c.args.number c.count.ensures room c.add.ensures c.bucket_of.ensures.is s.spread;
+    }
 
 pub returns : goal.returns
 returns c =
