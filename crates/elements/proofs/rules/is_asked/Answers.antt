@@ -6,7 +6,7 @@ use Rattle.x12.specs.Elements.{element_of_segment}
 use Rattle.guide.specs.Asked.{pairs_in}
 use Rattle.elements.proofs.Pairs.{asked, not_paired, none_asks}
 use Rattle.elements.proofs.rules.is_asked.Goals as goal
-use Rattle.elements.proofs.rules.is_asked.Goals.{else-pairs-via-then-pairs+else-is-filled, else-pairs-via-else-pairs}
+use Rattle.elements.proofs.rules.is_asked.Goals.{else-pairs-via-then-pairs+else-is_filled, else-pairs-via-else-pairs}
 
 pub returns-then-not-paired : goal.returns-then-not-paired
 returns-then-not-paired g c =
@@ -15,16 +15,16 @@ returns-then-not-paired g c =
 pub loop-other-init : goal.loop-other-init
 loop-other-init g c = below_none _
 
-pub returns-then-is-filled : goal.returns-then-is-filled
-returns-then-is-filled g c =
+pub returns-then-is_filled : goal.returns-then-is_filled
+returns-then-is_filled g c =
     sym (asked (g.G.Guide.meaning c.args.guide.now) c.args.separator c.args.row (segment (c.args.segment.place, c.args.segment.bytes.now) c.args.segment.closed) c.args.element c.loop-other.other
-    (sym c.if-pairs.ensures) (ap filled (sym c.bytes-in.ensures) ∙ sym c.if-is-filled.ensures))
+    (sym c.if-pairs.ensures) (ap filled (sym c.bytes_in.ensures) ∙ sym c.if-is_filled.ensures))
 
 pub loop-other-preserved : goal.loop-other-preserved
 loop-other-preserved g c = below_more _ _ c.loop-other.invariant (λ t.
     let p = and_parts (pairs_in (g.G.Guide.meaning c.args.guide.now) c.args.row c.loop-other.other c.args.element) (filled (element_of_segment c.args.separator (segment (c.args.segment.place, c.args.segment.bytes.now) c.args.segment.closed) c.loop-other.other).1) t in
     elim c.else-pairs.branch [
-      | else-pairs-via-then-pairs+else-is-filled w ↦ both_ways (filled w.bytes-in.result.now) (sym w.if-is-filled.ensures) (ap filled w.bytes-in.ensures ∙ p.1)
+      | else-pairs-via-then-pairs+else-is_filled w ↦ both_ways (filled w.bytes_in.result.now) (sym w.if-is_filled.ensures) (ap filled w.bytes_in.ensures ∙ p.1)
       | else-pairs-via-else-pairs w ↦ both_ways (pairs_in (g.G.Guide.meaning c.args.guide.now) c.args.row c.loop-other.other c.args.element) (sym w.if-pairs.ensures) p.0
     ])
 
@@ -32,5 +32,5 @@ pub returns : goal.returns
 returns g c =
     let e = c.from-other-end.ensures in
     let l = c.loop-other-test.false in
-    sym (none_asks (g.G.Guide.meaning c.args.guide.now) c.args.separator c.args.row (segment (c.args.segment.place, c.args.segment.bytes.now) c.args.segment.closed) c.args.element c.args.limit c.requires.1
+    sym (none_asks (g.G.Guide.meaning c.args.guide.now) c.args.separator c.args.row (segment (c.args.segment.place, c.args.segment.bytes.now) c.args.segment.closed) c.args.element c.args.limit c.requires.limit_value
     (λ a h t. c.loop-other.invariant a (omega arith) t))
