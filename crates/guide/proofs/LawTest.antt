@@ -16,7 +16,7 @@ use Rattle.grammar.proofs.FollowerTest.{followers_test, followers_test_sound}
 use Rattle.guide.specs.declared.rules.Need.{Need}
 use Rattle.guide.specs.declared.rules.Need.TheVariants.{Must, May, Unused}
 use Rattle.guide.specs.declared.rules.Rule.{Rule}
-use Rattle.guide.specs.Meaning.{ElementRule, Meaning, Standing, standing, size}
+use Rattle.guide.specs.Meaning.{Meaning, Standing, standing, size}
 use Rattle.guide.specs.Asked.{row_at, over, test, find_rule, rows_of, label_of}
 use Rattle.guide.specs.Law.{IsRow, Named, Fixed, Inside, Behind, KnownElement, known_elements, Typed, Keeps, Thirty, Lawful}
 use Rattle.guide.proofs.Rows.{every_row, every_row_lem, test_some, implies, implied, is_named, named_is, is_named_lem, all_of, all_of_lem, all_one_of}

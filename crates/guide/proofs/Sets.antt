@@ -1,14 +1,12 @@
 -- A lawful guide's rows are a lawful set.
-use Rattle.std.proofs.Common.{◌≡◌, ℕ, zero, suc, ◌+◌, ◌<◌, ◌≤◌, ◌≢◌, ◌⊎◌, List, [], ◌∷◌, ◌++◌, Some, None, codes, Option, sym, refl, ap, ◌∙◌, subst, inl, inr, arith}
+use Rattle.std.proofs.Common.{◌≡◌, ℕ, zero, suc, ◌+◌, ◌<◌, ◌≤◌, List, [], ◌∷◌, ◌++◌, Some, None, codes, Option, sym, refl, ap, ◌∙◌, subst, inl, inr, arith}
 use Rattle.std.specs.List.{AllByRecursion as All}
 use Rattle.x12.specs.Lists.{nth}
 use Rattle.grammar.specs.Tree.{Rows, end, row, HasRow, count, NumberedFrom, LeastUpToGreatest, after_first}
-use Rattle.grammar.specs.Marks.{OneOf}
-use Rattle.grammar.specs.Law.{LawfulSet}
 use Rattle.grammar.proofs.Numbering.{numbered_within}
-use Rattle.guide.specs.Meaning.{GuideRow, Tree, none, branch, Meaning, Standing, standing, size, numbered}
+use Rattle.guide.specs.Meaning.{Tree, none, branch, Meaning, Standing, standing, size, numbered}
 use Rattle.guide.specs.Asked.{row_at, rows_of, label, label_of}
-use Rattle.guide.specs.Law.{IsRow, Named, Fixed, Lawful}
+use Rattle.guide.specs.Law.{Named}
 use Rattle.guide.specs.Judged.{LawfulRows}
 
 -- what holds of each numbered item of a list holds of each item

@@ -1,5 +1,5 @@
 -- The law that every guide keeps.
-use Rattle.std.specs.Prelude.{◌≡◌, ℕ, ◌+◌, ◌<◌, ◌≤◌, Bool, true, false, ◌≢◌, ◌⊎◌, List, [], ◌∷◌, length, Some, None, codes, MatchBool, Option}
+use Rattle.std.specs.Prelude.{◌≡◌, ℕ, ◌+◌, ◌<◌, ◌≤◌, Bool, true, false, ◌⊎◌, List, [], ◌∷◌, Some, codes, MatchBool, Option}
 use Rattle.std.specs.List.{AllByRecursion as All}
 use Rattle.x12.specs.Class.{class_of}
 use Rattle.x12.specs.Met.{Name}
@@ -7,9 +7,9 @@ use Rattle.value.specs.declared.forms.Form.{Form}
 use Rattle.value.specs.declared.forms.Form.TheVariants.{N0, Q, Id, An}
 use Rattle.grammar.specs.Marks.{OneOf}
 use Rattle.grammar.specs.Law.{FollowersDisjoint}
-use Rattle.guide.specs.declared.rules.Need.TheVariants.{Must, May, Unused}
+use Rattle.guide.specs.declared.rules.Need.TheVariants.{Must, Unused}
 use Rattle.guide.specs.declared.rules.Rule.{Rule}
-use Rattle.guide.specs.Meaning.{ElementRule, GuideRow, Meaning, Standing, size}
+use Rattle.guide.specs.Meaning.{Meaning, Standing, size}
 use Rattle.guide.specs.Asked.{row_at, find_rule, over, rows_of, label_of}
 
 -- s is the row with number n

@@ -1,5 +1,5 @@
 -- Two meanings break the law.
-use Rattle.std.proofs.Common.{◌≡◌, ℕ, pred, ◌≤◌, ◌≢◌, List, [], ◌∷◌, codes, refl, inl, inr, arith, lit≤}
+use Rattle.std.proofs.Common.{◌≡◌, ℕ, pred, ◌≤◌, ◌≢◌, [], ◌∷◌, codes, refl, inl, inr, arith, lit≤}
 use Rattle.grammar.specs.Tree.{Rows, end, row}
 use Rattle.grammar.specs.Marks.{Mark}
 use Rattle.grammar.proofs.States.{State, Step, take_row, skip_row, leave_list, stay, move, Follows}

@@ -1,14 +1,13 @@
 -- What a guide's answers say of its table.
 use Rattle.std.proofs.Common.{◌≡◌, ℕ, zero, suc, ◌+◌, ◌<◌, ◌≤◌, ◌≢◌, List, [], ◌∷◌, length, drop, Some, None, Option, sym, refl, ap, ◌∙◌, subst, arith}
 use Rattle.x12.specs.Lists.{nth}
-use Rattle.grammar.proofs.FlatTable.{TableRow}
 use Rattle.grammar.proofs.Search.{NoRowOfDepth}
 use Rattle.guide.specs.declared.rules.Row.{Row}
-use Rattle.guide.specs.Meaning.{Meaning, Standing, standing, size}
+use Rattle.guide.specs.Meaning.{Meaning, Standing, standing}
 use Rattle.guide.specs.Asked.{row_at, row_of, over, told}
 use Rattle.guide.specs.Law.{Lawful}
 use Rattle.placing.specs.Model.{table_of, RowBehind}
-use Rattle.placing.proofs.Tables.{table_row, length_standing, table_at, table_end, loop_within}
+use Rattle.placing.proofs.Tables.{length_standing, table_at, table_end, loop_within}
 
 over_some : (o : Option Standing) (r : Row) → Some r ≡ over told o → (s : Standing) × (o ≡ Some s) × (told s ≡ r)
 over_some None r e = let z : ◌≡◌ {A = ℕ} 0 1 = cc in absurd (omega arith)

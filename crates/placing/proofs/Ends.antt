@@ -1,13 +1,13 @@
 -- The last row of a set: it is SE, and a set's state may end exactly after it.
-use Rattle.std.proofs.Common.{◌≡◌, ℕ, zero, suc, pred, ◌+◌, ◌-◌, ◌<◌, ◌≤◌, ◌⊎◌, List, [], ◌∷◌, ◌++◌, length, Some, None, codes, Option, sym, refl, ap, ◌∙◌, subst, inl, inr, append-nil, arith}
+use Rattle.std.proofs.Common.{◌≡◌, ℕ, zero, suc, pred, ◌+◌, ◌-◌, ◌<◌, ◌≤◌, List, [], ◌∷◌, ◌++◌, length, Some, sym, refl, ap, ◌∙◌, subst, inl, inr, arith}
 use Rattle.std.proofs.lemmas.Bool.{cases_lt}
 use Rattle.x12.specs.Lists.{nth}
 use Rattle.grammar.specs.Tree.{Rows, end, row, HasRow, after_first}
 use Rattle.grammar.proofs.States.{State, Step, take_row, skip_row, leave_list}
 use Rattle.grammar.proofs.Distinct.{OutermostRow, StateOutermostRow, DistinctState, outermost_has}
 use Rattle.grammar.proofs.LastRow.{EndsWith, BeforeLast, after_last, step_before_last}
-use Rattle.guide.specs.Meaning.{GuideRow, Tree, none, branch, Meaning, Standing, standing, size, numbered}
-use Rattle.guide.specs.Asked.{row_at, rows_of}
+use Rattle.guide.specs.Meaning.{Tree, none, branch, Meaning, Standing, standing, size, numbered}
+use Rattle.guide.specs.Asked.{rows_of}
 use Rattle.guide.specs.Law.{Lawful}
 use Rattle.placing.proofs.Tables.{length_standing, nth_left, nth_right, nth_within}
 

@@ -1,12 +1,12 @@
 -- Each branch of the search for a row, in the words of the code.
-use Rattle.std.proofs.Common.{◌≡◌, ℕ, zero, suc, ◌+◌, ◌<◌, ◌≤◌, Bool, true, false, ltb, ◌⊎◌, List, [], ◌∷◌, length, get_or, drop, Some, None, sym, refl, ap, ◌∙◌, subst, inl, inr, true≢false, arith}
+use Rattle.std.proofs.Common.{◌≡◌, ℕ, zero, suc, ◌+◌, ◌<◌, ◌≤◌, Bool, true, false, ltb, ◌⊎◌, List, ◌∷◌, length, get_or, drop, Some, sym, refl, ap, ◌∙◌, subst, inl, inr, true≢false, arith}
 use Rattle.grammar.proofs.States.{State}
-use Rattle.grammar.proofs.FlatTable.{TableRow, UsedRow, skip_deeper}
+use Rattle.grammar.proofs.FlatTable.{UsedRow, skip_deeper}
 use Rattle.grammar.proofs.Determined.{Refuses}
-use Rattle.grammar.proofs.Search.{Searching, Found, RowAt, NoRowOfDepth, search_starts, search_takes, search_skips, search_stops_at_row, search_takes_again, search_leaves, search_stops_at_used, search_ends}
+use Rattle.grammar.proofs.Search.{Searching, Found, RowAt, NoRowOfDepth, search_takes, search_skips, search_stops_at_row, search_takes_again, search_leaves, search_stops_at_used, search_ends}
 use Rattle.guide.specs.declared.rules.Row.{Row}
 use Rattle.guide.specs.Meaning.{Meaning, Standing}
-use Rattle.guide.specs.Asked.{row_at, row_of, told, fits_row}
+use Rattle.guide.specs.Asked.{row_at, told, fits_row}
 use Rattle.guide.specs.Law.{Lawful}
 use Rattle.placing.specs.declared.sets.UsedRow.{UsedRow as CodeRow}
 use Rattle.placing.specs.Model.{table_of, least_in, greatest_in, least_of, greatest_of, opens_in, opens_of, depth_in, depth_of, blank, below, RowBehind, Fits}

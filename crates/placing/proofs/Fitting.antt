@@ -1,14 +1,13 @@
 -- A row fits a mark exactly where its label matches it, and the rows of a set are rows of the guide.
-use Rattle.std.proofs.Common.{◌≡◌, ℕ, zero, suc, ◌+◌, ◌<◌, ◌≤◌, Bool, true, false, ◌&&◌, ◌||◌, ◌⊎◌, List, [], ◌∷◌, length, Some, None, Decides, Option, sym, refl, ap, ◌∙◌, subst, inl, inr, arith}
+use Rattle.std.proofs.Common.{◌≡◌, ℕ, zero, suc, ◌+◌, ◌≤◌, List, [], ◌∷◌, length, Some, Decides, Option, sym, refl, ap, subst, arith}
 use Rattle.std.proofs.lemmas.Slice.Eq.{bytes_eq-Decides}
 use Rattle.std.proofs.lemmas.Bool.Decides.{Decides-and, Decides-or}
 use Rattle.std.specs.Str.{bytes_eq}
 use Rattle.x12.specs.Lists.{nth}
-use Rattle.grammar.specs.Tree.{Rows, end, row, HasRow, count, NumberedFrom, after_first}
-use Rattle.grammar.specs.Marks.{Mark, Label, OneOf, Admit, Matches}
-use Rattle.grammar.specs.Law.{LawfulSet}
+use Rattle.grammar.specs.Tree.{HasRow, count, NumberedFrom, after_first}
+use Rattle.grammar.specs.Marks.{Mark, OneOf, Admit, Matches}
 use Rattle.grammar.proofs.Numbering.{numbered_within}
-use Rattle.guide.specs.Meaning.{Meaning, Standing, standing, size, numbered}
+use Rattle.guide.specs.Meaning.{Meaning, Standing, standing, size}
 use Rattle.guide.specs.Asked.{row_at, rows_of, label, label_of, fits_row, test, matches, is_among, admits}
 use Rattle.guide.specs.Law.{Lawful}
 use Rattle.guide.proofs.Sets.{lawful_rows, count_numbered}

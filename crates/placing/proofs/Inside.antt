@@ -1,20 +1,18 @@
 -- A segment inside a set: the row that the search chose takes it, and SE closes the set.
-use Rattle.std.proofs.Common.{◌≡◌, ℕ, zero, suc, ◌+◌, ◌<◌, ◌≤◌, Bool, true, false, ◌≢◌, ◌⊎◌, List, [], ◌∷◌, ◌++◌, length, Some, None, codes, Option, sym, refl, ap, ◌∙◌, subst, inl, inr, arith}
-use Rattle.grammar.specs.Tree.{Rows, HasRow}
+use Rattle.std.proofs.Common.{◌≡◌, ℕ, suc, ◌<◌, true, List, [], ◌∷◌, ◌++◌, length, Some, codes, Option, sym, refl, ap, ◌∙◌, subst, inl, inr, arith}
+use Rattle.grammar.specs.Tree.{HasRow}
 use Rattle.grammar.specs.Marks.{Mark}
-use Rattle.grammar.specs.Derivations.{Spot}
-use Rattle.grammar.proofs.States.{State, Step, Run, stay, move, run_append, run_has}
+use Rattle.grammar.proofs.States.{State, Run, stay, move, run_append, run_has}
 use Rattle.grammar.proofs.Distinct.{DistinctState, tree_distinct, step_distinct}
 use Rattle.grammar.proofs.LoopStates.{LoopState, without_loops, LoopStep, forget_step}
 use Rattle.grammar.proofs.Determined.{Refuses}
-use Rattle.grammar.proofs.LastRow.{BeforeLast, after_last}
 use Rattle.grammar.proofs.LawfulSets.{RowMatches, lawful_distinct}
 use Rattle.guide.specs.Meaning.{Meaning, Standing, size}
 use Rattle.guide.specs.Asked.{row_at, rows_of, label, label_of, fits_row}
 use Rattle.guide.specs.Law.{Lawful}
 use Rattle.guide.proofs.Sets.{lawful_rows}
 use Rattle.placing.specs.declared.phase.Phase.{Phase}
-use Rattle.placing.specs.declared.phase.Phase.TheVariants.{Set, Closed}
+use Rattle.placing.specs.declared.phase.Phase.TheVariants.{Set}
 use Rattle.placing.specs.declared.sets.UsedRow.{UsedRow as CodeRow}
 use Rattle.placing.specs.declared.sets.Choice.{Choice}
 use Rattle.placing.specs.Model.{Fits, Stands, Chosen, taken, around_of, loop_with}
@@ -23,7 +21,7 @@ use Rattle.placing.proofs.Loops.{set_step}
 use Rattle.placing.proofs.Ends.{last_taken, other_taken}
 use Rattle.placing.proofs.Turns.{NextPhase}
 use Rattle.placing.proofs.Fitting.{fits_decides, others_within, others_known}
-use Rattle.placing.proofs.Phases.{without_append, loop_upper, fits_row_lem, refuse_set}
+use Rattle.placing.proofs.Phases.{loop_upper, fits_row_lem, refuse_set}
 
 run_distinct : {S X : State} {w : List ℕ} → Run S w X → DistinctState S → DistinctState X
 run_distinct stay d = d

@@ -1,14 +1,14 @@
 -- The loops of a set's segments: what the code keeps of them is what a step gives.
-use Rattle.std.proofs.Common.{◌≡◌, ℕ, zero, suc, pred, ◌+◌, ◌<◌, ◌≤◌, Bool, true, false, cond, ◌&&◌, ltb, ◌⊎◌, List, [], ◌∷◌, ◌++◌, length, get_or, drop, set, Some, None, Option, sym, refl, ap, ◌∙◌, subst, inl, inr, append_assoc, arith, length-append, length-drop, get_or-set_other, get_or-set_same}
-use Rattle.std.proofs.lemmas.Bool.{true≢false, lt-ltb, le-ltb, cond-true, cond-false, cases_lt}
+use Rattle.std.proofs.Common.{◌≡◌, ℕ, zero, suc, pred, ◌+◌, ◌<◌, ◌≤◌, Bool, true, false, cond, ◌&&◌, ltb, List, [], ◌∷◌, ◌++◌, length, get_or, drop, set, Some, sym, refl, ap, ◌∙◌, subst, inl, inr, arith, length-drop, get_or-set_other, get_or-set_same}
+use Rattle.std.proofs.lemmas.Bool.{lt-ltb, le-ltb, cond-true, cases_lt}
 use Rattle.grammar.specs.Tree.{Rows, end, row}
 use Rattle.grammar.specs.Derivations.{Spot, opens_loop, loop_of, spot_of}
-use Rattle.grammar.proofs.States.{State, Step}
+use Rattle.grammar.proofs.States.{State}
 use Rattle.grammar.proofs.LoopStates.{LoopState, without_loops, LoopStep, loop_take, loop_skip, loop_leave, looped_step}
-use Rattle.grammar.proofs.FlatTable.{TableRow, UsedRow, flatten, behind_used, skip_deeper, skip_none, FirstNotDeeper, flatten_not_deeper, behind_not_deeper, Counted, counted_length}
-use Rattle.grammar.proofs.Search.{StandsFor, Found}
-use Rattle.guide.specs.Meaning.{Meaning, Standing, standing, size}
-use Rattle.guide.specs.Asked.{row_at, fits_row, test, matches}
+use Rattle.grammar.proofs.FlatTable.{TableRow, flatten, behind_used, skip_deeper, skip_none, FirstNotDeeper, flatten_not_deeper, behind_not_deeper, counted_length}
+use Rattle.grammar.proofs.Search.{StandsFor}
+use Rattle.guide.specs.Meaning.{Meaning, Standing}
+use Rattle.guide.specs.Asked.{row_at, matches}
 use Rattle.guide.proofs.Rows.{test_some}
 use Rattle.placing.specs.declared.sets.UsedRow.{UsedRow as CodeRow}
 use Rattle.placing.specs.declared.sets.Choice.{Choice}

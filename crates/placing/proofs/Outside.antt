@@ -1,12 +1,12 @@
 -- A segment of the envelope: what each turn leads to, and where there is none.
-use Rattle.std.proofs.Common.{◌≡◌, ℕ, zero, suc, ◌+◌, ◌<◌, ◌≤◌, Bool, true, false, ◌≢◌, ◌⊎◌, List, [], ◌∷◌, ◌++◌, length, get_or, drop, codes, sym, refl, ap, ◌∙◌, subst, inl, inr, true≢false, append-nil, arith, lit≤}
+use Rattle.std.proofs.Common.{◌≡◌, ℕ, ◌+◌, ◌<◌, ◌≤◌, true, false, ◌≢◌, ◌⊎◌, List, [], ◌∷◌, ◌++◌, length, get_or, drop, codes, sym, refl, ap, ◌∙◌, subst, inl, inr, true≢false, append-nil, arith, lit≤}
 use Rattle.grammar.specs.Tree.{Rows, end, row, after_first}
 use Rattle.grammar.specs.Marks.{Mark}
-use Rattle.grammar.proofs.States.{State, stay}
+use Rattle.grammar.proofs.States.{stay}
 use Rattle.grammar.proofs.LoopStates.{LoopState, without_loops, LoopStep}
-use Rattle.grammar.proofs.FlatTable.{TableRow, flatten}
+use Rattle.grammar.proofs.FlatTable.{flatten}
 use Rattle.grammar.proofs.Determined.{Refuses}
-use Rattle.grammar.proofs.LastRow.{after_last, after_last_ended}
+use Rattle.grammar.proofs.LastRow.{after_last_ended}
 use Rattle.grammar.proofs.States.{StateMayEnd}
 use Rattle.grammar.proofs.LawfulSets.{RowMatches}
 use Rattle.guide.specs.Meaning.{Meaning, size}
@@ -15,9 +15,8 @@ use Rattle.guide.specs.Law.{Lawful}
 use Rattle.guide.proofs.Sets.{lawful_rows}
 use Rattle.placing.specs.declared.phase.Phase.{Phase}
 use Rattle.placing.specs.declared.phase.Phase.TheVariants.{Start, Header, Group, Set, Closed, Trailer, End}
-use Rattle.placing.specs.declared.turn.Turn.TheVariants.{Isa, FirstGs, NextGs, FirstSt, NextSt, Ge, Iea, Inside, Nowhere}
+use Rattle.placing.specs.declared.turn.Turn.TheVariants.{Isa, FirstGs, NextGs, FirstSt, NextSt, Ge, Iea, Nowhere}
 use Rattle.placing.specs.declared.sets.UsedRow.{UsedRow as CodeRow}
-use Rattle.placing.specs.Model.{table_of, blank, depth_of, Stands}
 use Rattle.placing.specs.Stages.{others_of, sets_left, SetStands, StandsAt}
 use Rattle.placing.proofs.Ends.{set_ends}
 use Rattle.placing.proofs.Turns.{NoTurn, Told}

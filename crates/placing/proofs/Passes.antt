@@ -1,5 +1,5 @@
 -- One segment after the other: what was placed so far, and what follows of it.
-use Rattle.std.proofs.Common.{◌≡◌, ℕ, zero, suc, ◌+◌, Bool, true, false, List, [], ◌∷◌, ◌++◌, length, is_some, Some, None, Option, sym, refl, ap, ◌∙◌, subst, true≢false, append_assoc, append-nil, arith, length-append}
+use Rattle.std.proofs.Common.{◌≡◌, ℕ, suc, true, false, List, [], ◌∷◌, ◌++◌, length, is_some, Some, None, Option, sym, ap, ◌∙◌, subst, true≢false, append_assoc, append-nil}
 use Rattle.x12.specs.Header.{separator_of, terminator_of}
 use Rattle.x12.specs.Segments.{Segment, segments_of, segments_from}
 use Rattle.x12.specs.Causes.{fault}

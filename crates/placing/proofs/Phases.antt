@@ -1,18 +1,18 @@
 -- The steps of an interchange, phase by phase: which row takes a segment, and where none does.
-use Rattle.std.proofs.Common.{◌≡◌, ℕ, zero, suc, pred, ◌+◌, ◌-◌, ◌<◌, ◌≤◌, Bool, true, false, ◌≢◌, ◌⊎◌, List, [], ◌∷◌, ◌++◌, Some, None, codes, sym, refl, ap, ◌∙◌, subst, inl, inr, true≢false, arith, lit≤}
-use Rattle.grammar.specs.Tree.{Rows, end, row, HasRow, count, NumberedFrom, after_first}
+use Rattle.std.proofs.Common.{◌≡◌, ℕ, pred, ◌+◌, ◌-◌, ◌<◌, ◌≤◌, true, ◌≢◌, ◌⊎◌, List, [], ◌∷◌, ◌++◌, codes, sym, refl, ap, subst, inl, inr, arith, lit≤}
+use Rattle.grammar.specs.Tree.{Rows, end, row, HasRow}
 use Rattle.grammar.specs.Marks.{Mark, Label, Matches}
-use Rattle.grammar.specs.Derivations.{Spot, opens_loop, loop_of, spot_of}
-use Rattle.grammar.specs.Interchange.{group_rows, interchange, by_name, with_envelope}
-use Rattle.grammar.proofs.States.{State, Step, take_row, skip_row, leave_list, Run, run_append, run_has, move, stay, StateMayEnd}
-use Rattle.grammar.proofs.LoopStates.{LoopState, without_loops, LoopStep, loop_take, loop_skip, loop_leave, forget_step}
+use Rattle.grammar.specs.Derivations.{Spot, loop_of}
+use Rattle.grammar.specs.Interchange.{group_rows, interchange}
+use Rattle.grammar.proofs.States.{State, Step, take_row, skip_row, leave_list, Run, run_has, StateMayEnd}
+use Rattle.grammar.proofs.LoopStates.{LoopState, without_loops, LoopStep, loop_take, loop_skip, loop_leave}
 use Rattle.grammar.proofs.Determined.{Refuses}
 use Rattle.grammar.proofs.Envelope.{interchange_rows, from_start, from_isa, from_gs, from_iea}
 use Rattle.grammar.proofs.UpperState.{refuses_over}
-use Rattle.grammar.proofs.LastRow.{BeforeLast, after_last, before_last_not_ended, after_last_ended, after_last_no_step}
+use Rattle.grammar.proofs.LastRow.{BeforeLast, after_last, before_last_not_ended, after_last_no_step}
 use Rattle.grammar.proofs.LawfulSets.{RowMatches, label_of_set}
-use Rattle.guide.specs.Meaning.{Meaning, Standing, size}
-use Rattle.guide.specs.Asked.{row_at, rows_of, label_of, fits_row}
+use Rattle.guide.specs.Meaning.{Meaning, size}
+use Rattle.guide.specs.Asked.{rows_of, label_of, fits_row}
 use Rattle.guide.specs.Law.{Lawful}
 use Rattle.placing.specs.Model.{Fits}
 use Rattle.placing.specs.Stages.{others_of, groups_left, sets_left}

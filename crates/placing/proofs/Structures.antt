@@ -1,15 +1,14 @@
 -- The one fault of structure that an interchange meets, by what was placed of it.
-use Rattle.std.proofs.Common.{◌≡◌, ℕ, zero, suc, ◌+◌, ◌⊎◌, List, [], ◌∷◌, ◌++◌, map, length, sym, refl, ap, ◌∙◌, subst, inl, inr, append_assoc, append-nil, arith, length-append}
+use Rattle.std.proofs.Common.{◌≡◌, ℕ, suc, ◌⊎◌, List, [], ◌∷◌, ◌++◌, length, sym, refl, ap, ◌∙◌, subst, inl, inr, append_assoc, append-nil}
 use Rattle.x12.specs.declared.faults.Fault.{Fault}
-use Rattle.x12.specs.Header.{separator_of, terminator_of}
-use Rattle.x12.specs.Segments.{Segment, segments_of, segments_from}
+use Rattle.x12.specs.Header.{separator_of}
+use Rattle.x12.specs.Segments.{Segment, segments_of}
 use Rattle.x12.specs.Causes.{fault}
 use Rattle.x12.specs.Rank.{key, Before, First, NoneOf}
 use Rattle.x12.proofs.Rank.{lex_refl}
 use Rattle.grammar.specs.Marks.{Mark}
-use Rattle.grammar.specs.Derivations.{Spot}
 use Rattle.grammar.specs.Interchange.{Derivation, Begins}
-use Rattle.grammar.specs.Theorems.{OneDerivation, OnlyBegun}
+use Rattle.grammar.specs.Theorems.{OneDerivation}
 use Rattle.guide.specs.Meaning.{Meaning}
 use Rattle.guide.specs.Asked.{rows_of, label_of}
 use Rattle.placing.specs.Placing.{FitsNowhere}

@@ -1,9 +1,9 @@
 -- The flat table of a guide's rows, asked by row numbers.
-use Rattle.std.proofs.Common.{◌≡◌, ℕ, zero, suc, ◌+◌, ◌-◌, ◌<◌, ◌≤◌, ◌≢◌, ◌⊎◌, List, [], ◌∷◌, ◌++◌, length, drop, Some, None, Option, sym, refl, ap, ◌∙◌, subst, inl, inr, append_assoc, append-nil, arith, length-append}
+use Rattle.std.proofs.Common.{◌≡◌, ℕ, zero, suc, ◌+◌, ◌-◌, ◌<◌, ◌≤◌, ◌⊎◌, List, [], ◌∷◌, ◌++◌, length, drop, Some, None, sym, refl, ap, ◌∙◌, subst, inl, inr, append_assoc, append-nil, arith, length-append}
 use Rattle.std.proofs.lemmas.Bool.{cases_lt}
 use Rattle.x12.specs.Lists.{nth}
 use Rattle.grammar.proofs.FlatTable.{TableRow, flatten, TableNumbered, FirstNotDeeper, skip_deeper, skip_none, skip_flatten, not_deeper_more, flatten_not_deeper}
-use Rattle.guide.specs.Meaning.{GuideRow, Tree, none, branch, Meaning, Standing, standing, size, numbered}
+use Rattle.guide.specs.Meaning.{Tree, none, branch, Meaning, Standing, standing, size, numbered}
 use Rattle.placing.specs.Model.{table_of}
 
 abbrev pub table_row : ℕ → Standing → TableRow

@@ -1,5 +1,5 @@
 -- The marks are whole exactly where the placer stands behind IEA.
-use Rattle.std.proofs.Common.{◌≡◌, ℕ, ◌-◌, ◌≤◌, List, [], ◌∷◌, ◌++◌, sym, refl, ap, subst, arith}
+use Rattle.std.proofs.Common.{◌≡◌, ℕ, List, [], ◌∷◌, ◌++◌, sym, refl, subst, arith}
 use Rattle.grammar.specs.Marks.{Mark}
 use Rattle.grammar.specs.Interchange.{with_envelope}
 use Rattle.grammar.specs.Theorems.{OneDerivation, OnlyBegun}

@@ -1,5 +1,5 @@
 -- How the state of a set that the code keeps stands for a state of the theory.
-use Rattle.std.specs.Prelude.{◌≡◌, ℕ, zero, suc, ◌+◌, ◌<◌, ◌≤◌, Bool, true, false, cond, List, [], ◌∷◌, length, set, Some, None, Option, nat_lt, slice_index_or, slice_set}
+use Rattle.std.specs.Prelude.{◌≡◌, ℕ, zero, suc, ◌+◌, ◌<◌, ◌≤◌, Bool, true, false, cond, List, [], ◌∷◌, length, Some, None, Option, nat_lt, slice_index_or, slice_set}
 use Rattle.grammar.proofs.States.{State}
 use Rattle.grammar.proofs.LoopStates.{LoopState}
 use Rattle.grammar.proofs.FlatTable.{TableRow, UsedRow, flatten}

@@ -1,5 +1,5 @@
 -- Segments with the rows and loops that a derivation gives them, and words for lists of them.
-use Rattle.std.specs.Prelude.{◌≡◌, ℕ, ◌+◌, Bool, true, false, cond, ◌||◌, List, [], ◌∷◌, ◌++◌, map, Some, None, Option, ◌==◌}
+use Rattle.std.specs.Prelude.{◌≡◌, ℕ, ◌+◌, Bool, false, cond, ◌||◌, List, [], ◌∷◌, ◌++◌, map, Some, None, Option, ◌==◌}
 use Rattle.x12.specs.Header.{separator_of}
 use Rattle.x12.specs.Segments.{Segment, segments_of}
 use Rattle.grammar.specs.Marks.{Mark}

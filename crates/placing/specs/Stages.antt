@@ -1,11 +1,11 @@
 -- How the state of placing stands for a state of the theory, and for the marks that were read.
-use Rattle.std.specs.Prelude.{◌≡◌, ℕ, suc, ◌+◌, ◌-◌, ◌≤◌, List, [], ◌∷◌, ◌++◌, length, Option, MatchOption}
+use Rattle.std.specs.Prelude.{◌≡◌, ℕ, ◌-◌, ◌≤◌, List, [], ◌∷◌, ◌++◌, Option, MatchOption}
 use Rattle.grammar.specs.Tree.{Rows, end, row, after_first}
 use Rattle.grammar.specs.Marks.{Mark}
-use Rattle.grammar.specs.Derivations.{Spot, RowsMatch}
-use Rattle.grammar.specs.Interchange.{group_rows, interchange, with_envelope}
-use Rattle.grammar.proofs.States.{State, Run}
-use Rattle.grammar.proofs.LoopStates.{LoopState, without_loops, LoopStep, LoopRun}
+use Rattle.grammar.specs.Derivations.{Spot}
+use Rattle.grammar.specs.Interchange.{group_rows, interchange}
+use Rattle.grammar.proofs.States.{Run}
+use Rattle.grammar.proofs.LoopStates.{LoopState, without_loops, LoopStep}
 use Rattle.grammar.proofs.Envelope.{interchange_rows}
 use Rattle.grammar.proofs.LastRow.{BeforeLast, after_last}
 use Rattle.guide.specs.Meaning.{Meaning, size}

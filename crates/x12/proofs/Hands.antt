@@ -4,7 +4,7 @@ use Rattle.std.specs.List.{between}
 use Rattle.x12.specs.Lists.{nth}
 use Rattle.x12.specs.Header.{separator_of, Sound}
 use Rattle.x12.specs.Segments.{Part, Segment, segments_of}
-use Rattle.x12.specs.Elements.{element_of_segment, element_at, element_of, place_of, PartOf, HandedOut}
+use Rattle.x12.specs.Elements.{element_of_segment, element_at, element_of, PartOf, HandedOut}
 use Rattle.x12.proofs.Picks.{part_within}
 
 -- where the segment is absent there is no element

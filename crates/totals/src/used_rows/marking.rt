@@ -1,4 +1,4 @@
-ghost use Rattle.std.specs.Prelude.{◌≡◌, ◌<◌, true, false, length, set, replicate, if◌then◌else◌, None, ◌==◌, nat_eq, slice_set};
+ghost use Rattle.std.specs.Prelude.{◌≡◌, ◌<◌, cond, true, false, length, set, replicate, if◌then◌else◌, None, ◌==◌, nat_eq, slice_set};
 ghost use Rattle.totals.specs.Keeps.{lacks_by};
 
 use super::UsedRows;

@@ -1,7 +1,6 @@
-use Rattle.std.proofs.Common.{◌≡◌, ℕ, suc, ◌+◌, ◌-◌, ◌<◌, ◌≤◌, false, ◌⊎◌, get_or, drop, sym, ◌∙◌, subst, inl, inr, arith}
-use Rattle.grammar.proofs.Search.{NoRowOfDepth, search_starts}
-use Rattle.guide.specs.Asked.{fits_row}
-use Rattle.placing.specs.Model.{table_of, least_of, greatest_of, blank, below, Fits}
+use Rattle.std.proofs.Common.{◌≡◌, ℕ, suc, ◌-◌, ◌<◌, ◌≤◌, get_or, drop, sym, subst, inl, inr, arith}
+use Rattle.grammar.proofs.Search.{NoRowOfDepth}
+use Rattle.placing.specs.Model.{table_of, blank}
 use Rattle.placing.proofs.Finds.{Search, opens_is, depth_is, takes, stops_at_row, skips, takes_again, leaves, stops_at_used, ends}
 use Rattle.placing.proofs.search.find.Goals as goal
 use Rattle.placing.proofs.search.find.Goals.{else-used-uses-via-then-used-uses+else-fits-2, else-used-uses-via-else-used-uses}

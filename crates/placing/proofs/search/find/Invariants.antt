@@ -1,4 +1,4 @@
-use Rattle.std.proofs.Common.{ℕ, ◌+◌, ◌-◌, ◌≤◌}
+use Rattle.std.proofs.Common.{◌+◌, ◌-◌, ◌≤◌}
 use Rattle.grammar.proofs.States.{State}
 use Rattle.grammar.proofs.Search.{Searching}
 use Rattle.placing.specs.Model.{table_of, least_of, greatest_of, below, Fits, Stands}

@@ -1,4 +1,4 @@
-use Rattle.std.proofs.Common.{◌≡◌, ℕ, suc, ◌+◌, ◌<◌, ◌≤◌, ◌⊎◌, List, length, set as write, codes, sym, ap, ◌∙◌, subst, inl, inr, arith}
+use Rattle.std.proofs.Common.{◌≡◌, ℕ, suc, List, set as write, sym, ap, ◌∙◌, subst, arith}
 use Rattle.grammar.proofs.LoopStates.{LoopState, LoopStep}
 use Rattle.grammar.proofs.LawfulSets.{RowMatches}
 use Rattle.grammar.specs.Marks.{Mark}

@@ -1,4 +1,4 @@
-use Rattle.std.proofs.Common.{◌≡◌, ℕ, ◌+◌, ◌<◌, ◌≤◌, List, sym, subst, inl, inr, arith}
+use Rattle.std.proofs.Common.{◌≡◌, ℕ, ◌+◌, List, sym, subst, inl, inr, arith}
 use Rattle.placing.specs.declared.phase.Phase.{Phase}
 use Rattle.placing.specs.declared.turn.Turn.{Turn}
 use Rattle.placing.specs.Turns.{turn_of}

@@ -1,5 +1,4 @@
-use Rattle.std.proofs.Common.{◌≡◌, ℕ, suc, ◌+◌, ◌≤◌, List, [], ◌∷◌, ◌++◌, length, sym, refl, ap, ◌∙◌, arith, length-append}
-use Rattle.grammar.specs.Marks.{Mark}
+use Rattle.std.proofs.Common.{◌≡◌, suc, ◌+◌, [], ◌∷◌, ◌++◌, length, ◌∙◌, arith, length-append}
 use Rattle.x12.specs.Segments.{Segment, segment, segments_from}
 use Rattle.placing.specs.Stages.{mark}
 use Rattle.placing.specs.Structure.{mark_in}

@@ -1,4 +1,4 @@
-use Rattle.std.proofs.Common.{◌≡◌, ℕ, ◌+◌, ◌-◌, ◌≤◌, List, ◌++◌, length}
+use Rattle.std.proofs.Common.{◌≡◌, ◌+◌, ◌-◌, ◌≤◌, List, ◌++◌, length}
 use Rattle.x12.specs.Segments.{Segment, segments_from}
 use Rattle.placing.specs.Placing.{HasPlaced}
 use Rattle.placing.specs.Structure.{marks_in}

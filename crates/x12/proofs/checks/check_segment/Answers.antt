@@ -1,7 +1,6 @@
-use Rattle.std.proofs.Common.{◌≡◌, ℕ, ◌+◌, ◌<◌, length, sym, ◌∙◌, arith}
+use Rattle.std.proofs.Common.{◌+◌, ◌<◌, length, sym, ◌∙◌, arith}
 use Rattle.std.specs.List.{between}
 use Rattle.std.proofs.lemmas.Result.{err_from_is_err_and}
-use Rattle.x12.specs.Causes.{cause_of}
 use Rattle.x12.specs.Checks.{part_check}
 use Rattle.x12.proofs.Bytes.{check_known}
 use Rattle.x12.proofs.Turns.{part_stop, part_last, part_on}

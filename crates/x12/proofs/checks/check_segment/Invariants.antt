@@ -1,4 +1,4 @@
-use Rattle.std.proofs.Common.{◌≡◌, ℕ, ◌+◌, ◌-◌, ◌≤◌, length, drop}
+use Rattle.std.proofs.Common.{◌≡◌, ◌+◌, ◌-◌, ◌≤◌, length, drop}
 use Rattle.x12.specs.Lists.{each}
 use Rattle.x12.specs.Segments.{parts_of}
 use Rattle.x12.specs.Checks.{part_check}

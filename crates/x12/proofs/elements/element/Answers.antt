@@ -1,4 +1,4 @@
-use Rattle.std.proofs.Common.{ℕ, ◌+◌, length, sym, ◌∙◌}
+use Rattle.std.proofs.Common.{◌+◌, length, sym, ◌∙◌}
 use Rattle.x12.specs.declared.parts.Element.{Element}
 use Rattle.x12.specs.Causes.{cause_of}
 use Rattle.x12.specs.Segments.{segment, segments_from}

@@ -1,6 +1,4 @@
-use Rattle.std.proofs.Common.{◌≡◌, ℕ, ◌+◌, ◌<◌, List, [], length, sym, ap, ◌∙◌, arith}
-use Rattle.std.specs.List.{between}
-use Rattle.x12.specs.Segments.{Part}
+use Rattle.std.proofs.Common.{◌≡◌, ◌+◌, ◌<◌, length, sym, ◌∙◌, arith}
 use Rattle.x12.proofs.Picks.{part_behind, no_part, part_here, between_none, part_of}
 use Rattle.x12.proofs.elements.part_in.Goals as goal
 

@@ -1,4 +1,4 @@
-use Rattle.std.proofs.Common.{ℕ, ◌+◌, List, length, sym, ap, ◌∙◌, add-zero}
+use Rattle.std.proofs.Common.{◌+◌, List, length, sym, ap, ◌∙◌, add-zero}
 use Rattle.std.proofs.lemmas.Result.{err_from_is_err_and}
 use Rattle.x12.specs.Lists.{each}
 use Rattle.x12.specs.Segments.{Segment, segment, segments_from}

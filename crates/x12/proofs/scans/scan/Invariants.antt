@@ -1,4 +1,4 @@
-use Rattle.std.proofs.Common.{◌≡◌, ℕ, ◌+◌, ◌-◌, ◌≤◌, length}
+use Rattle.std.proofs.Common.{◌≡◌, ◌+◌, ◌-◌, ◌≤◌, length}
 use Rattle.x12.specs.Lists.{each}
 use Rattle.x12.specs.Segments.{segments_from, segments_of}
 use Rattle.x12.specs.Checks.{segment_check}

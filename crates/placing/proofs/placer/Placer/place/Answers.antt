@@ -1,4 +1,4 @@
-use Rattle.std.proofs.Common.{◌≡◌, refl}
+use Rattle.std.proofs.Common.{refl}
 use Rattle.placing.specs.Stages.{mark, spot_for}
 use Rattle.placing.proofs.Promise.{no_place, one_more, begins_now, gives}
 use Rattle.placing.proofs.placer.Placer.place.Goals as goal

@@ -1,7 +1,7 @@
-use Rattle.std.proofs.Common.{◌≡◌, ℕ, Bool, ◌&&◌, eqb, List, codes, sym, refl, ap, ◌∙◌}
+use Rattle.std.proofs.Common.{◌≡◌, ◌&&◌, eqb, codes, sym, refl, ◌∙◌}
 use Rattle.std.specs.Str.{bytes_eq}
 use Rattle.x12.specs.Lists.{filled}
-use Rattle.x12.specs.Segments.{Part, Segment, segment}
+use Rattle.x12.specs.Segments.{Segment, segment}
 use Rattle.x12.specs.Elements.{element_of_segment}
 use Rattle.placing.specs.Stages.{spot_for}
 use Rattle.placing.specs.Placed.{PlacedSegment}
@@ -23,9 +23,9 @@ returns g c = λ z is.
     let t = c.args.self.now in
     let s : Segment = segment (c.args.segment.place, c.args.segment.bytes.now) c.args.segment.closed in
     let p : PlacedSegment = (s, spot_for c.args.placed) in
-    let name : c.bytes-in-name.result.now ≡ value x p 0 = c.bytes-in-name.ensures in
-    let first : (c.part-in-first.result.place, c.part-in-first.result.bytes.now) ≡ element_of_segment x s 1 = sym c.part-in-first.ensures.0 in
-    let second : (c.part-in-second.result.place, c.part-in-second.result.bytes.now) ≡ element_of_segment x s 2 = sym c.part-in-second.ensures.0 in
+    let name : c.bytes_in-name.result.now ≡ value x p 0 = c.bytes_in-name.ensures in
+    let first : (c.part_in-first.result.place, c.part_in-first.result.bytes.now) ≡ element_of_segment x s 1 = sym c.part_in-first.ensures.0 in
+    let second : (c.part_in-second.result.place, c.part_in-second.result.bytes.now) ≡ element_of_segment x s 2 = sym c.part_in-second.ensures.0 in
     answers_same cause_of_totals c.judge.result _ _
     ((λ i. totals_by c.args.number c.args.segment.place (m.held && is_unlike_close t.line c.args.placed.outer)
     (first i).0 (differs (counted_by t.counts c.args.placed.row (name i)) (first i).1) (bytes_eq (name i) (codes "PO1") && came_before (first i).1 (line_numbers_of t.line_numbers))

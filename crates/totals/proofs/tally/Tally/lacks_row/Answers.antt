@@ -1,4 +1,4 @@
-use Rattle.std.proofs.Common.{◌≡◌, Bool, sym, ◌∙◌}
+use Rattle.std.proofs.Common.{sym, ◌∙◌}
 use Rattle.totals.specs.Keeps.{lacks_by}
 use Rattle.totals.proofs.Ties.{lacks_by_lem}
 use Rattle.totals.proofs.tally.Tally.lacks_row.Goals as goal

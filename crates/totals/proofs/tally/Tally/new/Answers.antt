@@ -1,4 +1,4 @@
-use Rattle.std.proofs.Common.{◌≡◌, Bool, false, List, get_or, refl, ap, ◌∙◌}
+use Rattle.std.proofs.Common.{Bool, false, List, get_or, refl, ap, ◌∙◌}
 use Rattle.totals.proofs.Amounts.{none_used}
 use Rattle.totals.proofs.tally.Tally.new.Goals as goal
 
