@@ -3,7 +3,7 @@ use Rattle.std.proofs.Common.{◌≡◌, ℕ, zero, suc, ◌+◌, ◌<◌, ◌�
 use Rattle.std.proofs.lemmas.Slice.Eq.{bytes_eq-Decides}
 use Rattle.std.proofs.lemmas.Bool.{and_parts, and_from, not-true, not_from_false, eqb-true, eq-eqb, or_cases, or_left, or_right, cases_lt}
 use Rattle.std.proofs.lemmas.Bool.Decides.{Decides-and, Decides-not, Decides-eqb}
-use Rattle.std.specs.List.{AllByRecursion as All}
+use Rattle.std.specs.List.{AllByRecursion}
 use Rattle.std.specs.Str.{bytes_eq}
 use Rattle.x12.specs.declared.faults.Fault.{Fault}
 use Rattle.x12.specs.Lists.{filled, and_then, each, Item}
@@ -149,7 +149,7 @@ module _ (m : Meaning) (separator : ℕ) (p : PlacedSegment) where
     abbrev Named : Fault → Type 0
     Named f = Hits k 0 p.0.place ((is_row_lacking m separator z p, 13) ∷ []) f
 
-    row_decides : (r : ℕ) → Decides (not (any_of (has_row r) (since_last (has_row 1) z ++ (p ∷ [])))) (All (λ (q : PlacedSegment). q.1.row ≢ r) (since_last (has_row 1) z ++ (p ∷ [])))
+    row_decides : (r : ℕ) → Decides (not (any_of (has_row r) (since_last (has_row 1) z ++ (p ∷ [])))) (AllByRecursion (λ (q : PlacedSegment). q.1.row ≢ r) (since_last (has_row 1) z ++ (p ∷ [])))
     row_decides r = none_decides (has_row r) (λ (q : PlacedSegment). q.1.row ≡ r) (λ q. Decides-eqb q.1.row r) (since_last (has_row 1) z ++ (p ∷ []))
 
     needed_out : (o : Option PlacedSegment) (r : ℕ) → and_then_option o (λ b. m.needed (value separator b 2)) ≡ Some r → (b : PlacedSegment) × (o ≡ Some b) × (m.needed (value separator b 2) ≡ Some r)

@@ -2,7 +2,7 @@
 use Rattle.std.proofs.Common.{◌≡◌, ℕ, zero, suc, ◌<◌, ◌≤◌, max, Bool, true, false, cond, not, ◌&&◌, ◌||◌, eqb, ◌≢◌, ◌⊎◌, List, [], ◌∷◌, ◌++◌, Some, None, Decides, Option, sym, refl, ap, ◌∙◌, subst, inl, inr, arith}
 use Rattle.std.proofs.lemmas.Bool.{true≢false, and_parts, and_from, not-true, not_from_false, eqb-true, eq-eqb, cases_Bool, both_ways, or_left, or_right, or_from}
 use Rattle.std.proofs.lemmas.Bool.Decides.{Decides-and, Decides-or, Decides-not, Decides-eqb, Decides-like}
-use Rattle.std.specs.List.{AllByRecursion as All}
+use Rattle.std.specs.List.{AllByRecursion}
 use Rattle.x12.specs.Lists.{filled}
 use Rattle.grammar.specs.Marks.{OneOf}
 use Rattle.guide.specs.declared.rules.Need.{Need}
@@ -61,11 +61,11 @@ test_decides t Q d None = ((λ e. absurd (true≢false (sym e))), (λ h. absurd 
 test_decides t Q d (Some x) = ((λ e. (x, refl, (d x).0 e)), (λ h. (d x).1 (subst Q (sym (same_some x h.0 h.1)) h.2)))
 
 -- no item of a list passes a test
-pub none_decides : {A : Type 0} (t : A → Bool) (Q : A → Type 0) → ((x : A) → Decides (t x) (Q x)) → (xs : List A) → Decides (not (any_of t xs)) (All (λ x. Q x → ⊥) xs)
+pub none_decides : {A : Type 0} (t : A → Bool) (Q : A → Type 0) → ((x : A) → Decides (t x) (Q x)) → (xs : List A) → Decides (not (any_of t xs)) (AllByRecursion (λ x. Q x → ⊥) xs)
 none_decides t Q d [] = ((λ e. tt), (λ h. refl))
 none_decides t Q d (x ∷ xs) = ((λ e. out (none_decides t Q d xs).0 (cases_Bool (t x)) (cases_Bool (any_of t xs)) e), (λ h. in' (cases_Bool (t x)) h.0 ((none_decides t Q d xs).1 h.1)))
   where
-    out : (not (any_of t xs) ≡ true → All (λ y. Q y → ⊥) xs) → (t x ≡ true) ⊎ (t x ≡ false) → (any_of t xs ≡ true) ⊎ (any_of t xs ≡ false) → not (t x || any_of t xs) ≡ true → (Q x → ⊥) × All (λ y. Q y → ⊥) xs
+    out : (not (any_of t xs) ≡ true → AllByRecursion (λ y. Q y → ⊥) xs) → (t x ≡ true) ⊎ (t x ≡ false) → (any_of t xs ≡ true) ⊎ (any_of t xs ≡ false) → not (t x || any_of t xs) ≡ true → (Q x → ⊥) × AllByRecursion (λ y. Q y → ⊥) xs
     out r (inl y) b e = absurd (both_ways (t x || any_of t xs) (not-true (t x || any_of t xs) e) (or_left (t x) (any_of t xs) y))
     out r (inr y) (inl b) e = absurd (both_ways (t x || any_of t xs) (not-true (t x || any_of t xs) e) (or_right (t x) (any_of t xs) b))
     out r (inr y) (inr b) e = ((λ q. both_ways (t x) y ((d x).1 q)), r (not_from_false (any_of t xs) b))

@@ -1,6 +1,6 @@
 -- The faults of elements, each cause in the words of the rule book.
 use Rattle.std.specs.Prelude.{◌≡◌, ℕ, ◌≤◌, true, false, ◌≢◌, ◌⊎◌, List, [], ◌∷◌, ◌++◌, Some, None, codes, Option}
-use Rattle.std.specs.List.{AllByRecursion as All}
+use Rattle.std.specs.List.{AllByRecursion}
 use Rattle.x12.specs.declared.faults.Fault.{Fault}
 use Rattle.x12.specs.Elements.{element_of_segment}
 use Rattle.x12.specs.Causes.{fault}
@@ -52,7 +52,7 @@ pub data ElementFails (m : Meaning) (separator : ℕ) (z : List PlacedSegment) (
   broken_pair : {b : ℕ} (a : ℕ) → HasPair m p a b → value separator p a ≢ [] → value separator p b ≡ [] → ElementFails m separator z p 13 b
   -- SE ends a set that by its BAK has to hold row r, and no segment of the set, from ST to SE, has that row
   missing_row : (b : PlacedSegment) (r : ℕ) → value separator p 0 ≡ codes "SE" → last_of (has_row 2) z ≡ Some b → m.needed (value separator b 2) ≡ Some r
-      → All (λ (q : PlacedSegment). q.1.row ≢ r) (since_last (has_row 1) z ++ (p ∷ [])) → ElementFails m separator z p 13 0
+      → AllByRecursion (λ (q : PlacedSegment). q.1.row ≢ r) (since_last (has_row 1) z ++ (p ∷ [])) → ElementFails m separator z p 13 0
 
 -- a fault of an element of segment k, which is p and follows the segments z: it stands at its element
 abbrev pub ElementMet : Meaning → ℕ → ℕ → List PlacedSegment → PlacedSegment → Fault → Type 0

@@ -1,13 +1,13 @@
 -- How far a loop extends: no segment inside it stands in a loop that was opened before it.
 use Rattle.std.proofs.Common.{ℕ, ◌≤◌, Bool, true, false, cond, List, arith}
-use Rattle.std.specs.List.{AllByRecursion as All}
+use Rattle.std.specs.List.{AllByRecursion}
 use Rattle.std.proofs.ByRecursion.{All-append}
 use Rattle.grammar.specs.Tree.{Rows}
 use Rattle.grammar.specs.Derivations.{Spot, opens_loop, InOrder, no_row, next_row, Uses, no_use, next_use}
 
 -- the segments stand in loops that were opened at b or later
 abbrev pub OuterFrom : ℕ → List Spot → Type 0
-OuterFrom b spots = All (λ (x : Spot). b ≤ x.outer) spots
+OuterFrom b spots = AllByRecursion (λ (x : Spot). b ≤ x.outer) spots
 
 loop_from : (opens : Bool) (b around place : ℕ) → b ≤ around → b ≤ place → b ≤ cond opens place around
 loop_from true b around place p q = q

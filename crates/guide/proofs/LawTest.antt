@@ -3,7 +3,7 @@ use Rattle.std.proofs.Common.{◌≡◌, ℕ, suc, ◌+◌, ◌<◌, ◌≤◌, 
 use Rattle.std.proofs.lemmas.Bool.{true≢false, both_ways, not-true, and_parts, or_cases, leb-true, le-leb, ltb-true, eqb-true}
 use Rattle.std.proofs.lemmas.Bool.Decides.{Decides-and}
 use Rattle.std.proofs.ByRecursion.{Decides-by_and}
-use Rattle.std.specs.List.{AllByRecursion as All}
+use Rattle.std.specs.List.{AllByRecursion}
 use Rattle.x12.specs.Class.{class_of, within}
 use Rattle.x12.specs.Lists.{every}
 use Rattle.x12.specs.Checks.{name_byte, good_name}
@@ -40,7 +40,7 @@ uses_test s = leb s.this.least s.this.greatest && leb 1 s.this.greatest
 abbrev pub words_test : Standing → Bool
 words_test s = good_name s.this.name && all_of (every name_byte) s.this.placing
 
-code_decides : (v : List ℕ) → Decides (every name_byte v) (All (λ b. (class_of b ≡ 1) ⊎ (class_of b ≡ 2)) v)
+code_decides : (v : List ℕ) → Decides (every name_byte v) (AllByRecursion (λ b. (class_of b ≡ 1) ⊎ (class_of b ≡ 2)) v)
 code_decides v = Decides-by_and name_byte (λ b. (class_of b ≡ 1) ⊎ (class_of b ≡ 2)) (every name_byte) name_byte_decides refl (λ _ _. refl) v
 
 -- names that only one row may have, by its number, and names that no row may have
@@ -227,7 +227,7 @@ names_passed last po1 ack ctt n s t =
     let f = and_parts (only_test (codes "CTT") ctt n s) free e.1 in
     (a.0, b.0, c.0, d.0, e.0, f.0, f.1)
 
-bounds_is : (s : Standing) → bounds_test s ≡ true → (s.depth ≤ 4) × All (λ e. Thirty e.number) s.this.elements × All (λ p. Thirty p.0 × Thirty p.1) s.this.pairs
+bounds_is : (s : Standing) → bounds_test s ≡ true → (s.depth ≤ 4) × AllByRecursion (λ e. Thirty e.number) s.this.elements × AllByRecursion (λ p. Thirty p.0 × Thirty p.1) s.this.pairs
 bounds_is s t =
     let a = and_parts (leb s.depth 4) (all_of (λ e. thirty_test e.number) s.this.elements && all_of (λ p. thirty_test p.0 && thirty_test p.1) s.this.pairs) t in
     let b = and_parts (all_of (λ e. thirty_test e.number) s.this.elements) (all_of (λ p. thirty_test p.0 && thirty_test p.1) s.this.pairs) a.1 in (
@@ -351,7 +351,7 @@ module _ (m : Meaning) (po1 ack ctt : ℕ) (t : law_test_by m (size m.tree) po1 
     ctt_behind_po1 = behind_po1;
     uses = uses_kept;
     names = λ n s i. (name_decides s.this.name).0 (words_kept n s i).0;
-    placings = λ n s i. all_of_lem (every name_byte) (All (λ b. (class_of b ≡ 1) ⊎ (class_of b ≡ 2))) code_decides s.this.placing (words_kept n s i).1;
+    placings = λ n s i. all_of_lem (every name_byte) (AllByRecursion (λ b. (class_of b ≡ 1) ⊎ (class_of b ≡ 2))) code_decides s.this.placing (words_kept n s i).1;
     followers = followers_test_sound (label_of m) (rows_of m) passed.7;
     po1 = (po1, po1_row_lem.0, po1_row_lem.1, po1_row_lem.2, po1_row_lem.3, po1_number);
     ack = (ack, ack_row_lem.0, ack_number);

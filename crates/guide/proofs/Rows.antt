@@ -3,7 +3,7 @@ use Rattle.std.proofs.Common.{◌≡◌, ℕ, zero, suc, ◌+◌, Bool, true, fa
 use Rattle.std.proofs.lemmas.Bool.{true≢false, and_parts}
 use Rattle.std.proofs.lemmas.Slice.Eq.{bytes_eq-Decides}
 use Rattle.std.proofs.ByRecursion.{Decides-by_and}
-use Rattle.std.specs.List.{AllByRecursion as All}
+use Rattle.std.specs.List.{AllByRecursion}
 use Rattle.std.specs.Str.{bytes_eq}
 use Rattle.x12.specs.Lists.{nth}
 use Rattle.grammar.specs.Marks.{OneOf}
@@ -63,7 +63,7 @@ abbrev pub all_of : {X : Type 0} → (X → Bool) → List X → Bool
 all_of f [] = true
 all_of f (x ∷ xs) = f x && all_of f xs
 
-pub all_of_lem : {X : Type 0} (f : X → Bool) (P : X → Type 0) → ((x : X) → Decides (f x) (P x)) → (xs : List X) → all_of f xs ≡ true → All P xs
+pub all_of_lem : {X : Type 0} (f : X → Bool) (P : X → Type 0) → ((x : X) → Decides (f x) (P x)) → (xs : List X) → all_of f xs ≡ true → AllByRecursion P xs
 all_of_lem f P d xs t = (Decides-by_and f P (all_of f) d refl (λ _ _. refl) xs).0 t
 
 pub all_one_of : {X : Type 0} (f : X → Bool) (xs : List X) → all_of f xs ≡ true → (x : X) → OneOf xs x → f x ≡ true

@@ -1,6 +1,6 @@
 -- A lawful guide's rows are a lawful set.
 use Rattle.std.proofs.Common.{◌≡◌, ℕ, zero, suc, ◌+◌, ◌<◌, ◌≤◌, List, [], ◌∷◌, ◌++◌, Some, None, codes, Option, sym, refl, ap, ◌∙◌, subst, inl, inr, arith}
-use Rattle.std.specs.List.{AllByRecursion as All}
+use Rattle.std.specs.List.{AllByRecursion}
 use Rattle.x12.specs.Lists.{nth}
 use Rattle.grammar.specs.Tree.{Rows, end, row, HasRow, count, NumberedFrom, LeastUpToGreatest, after_first}
 use Rattle.grammar.proofs.Numbering.{numbered_within}
@@ -18,15 +18,15 @@ nth_later : {X : Type 0} (P : X → Type 0) (x : X) (xs : List X) → ((n : ℕ)
 nth_later P x xs h zero y e = absurd (nth_zero xs y e)
 nth_later P x xs h (suc n) y e = h (suc (suc n)) y e
 
-all_nth : {X : Type 0} (P : X → Type 0) (xs : List X) → ((n : ℕ) (x : X) → nth xs n ≡ Some x → P x) → All P xs
+all_nth : {X : Type 0} (P : X → Type 0) (xs : List X) → ((n : ℕ) (x : X) → nth xs n ≡ Some x → P x) → AllByRecursion P xs
 all_nth P [] h = tt
 all_nth P (x ∷ xs) h = (h 1 x refl, all_nth P xs (nth_later P x xs h))
 
-all_left : {X : Type 0} (P : X → Type 0) (xs ys : List X) → All P (xs ++ ys) → All P xs
+all_left : {X : Type 0} (P : X → Type 0) (xs ys : List X) → AllByRecursion P (xs ++ ys) → AllByRecursion P xs
 all_left P [] ys a = tt
 all_left P (x ∷ xs) ys a = (a.0, all_left P xs ys a.1)
 
-all_right : {X : Type 0} (P : X → Type 0) (xs ys : List X) → All P (xs ++ ys) → All P ys
+all_right : {X : Type 0} (P : X → Type 0) (xs ys : List X) → AllByRecursion P (xs ++ ys) → AllByRecursion P ys
 all_right P [] ys a = a
 all_right P (x ∷ xs) ys a = all_right P xs ys a.1
 
@@ -39,7 +39,7 @@ numbered_from n none = tt
 numbered_from n (branch this inner after) =
     (refl, numbered_from (suc n) inner, subst (λ (k : ℕ). NumberedFrom (suc n + k) (numbered (suc n + size inner) after)) (sym (count_numbered (suc n) inner)) (numbered_from (suc n + size inner) after))
 
-least_up : (n d : ℕ) (t : Tree) → All (λ s. s.this.least ≤ s.this.greatest) (standing d t) → LeastUpToGreatest (numbered n t)
+least_up : (n d : ℕ) (t : Tree) → AllByRecursion (λ s. s.this.least ≤ s.this.greatest) (standing d t) → LeastUpToGreatest (numbered n t)
 least_up n d none a = tt
 least_up n d (branch this inner after) a = (
   a.0,

@@ -1,6 +1,6 @@
 -- The law that every guide keeps.
 use Rattle.std.specs.Prelude.{◌≡◌, ℕ, ◌+◌, ◌<◌, ◌≤◌, Bool, true, false, ◌⊎◌, List, [], ◌∷◌, Some, codes, MatchBool, Option}
-use Rattle.std.specs.List.{AllByRecursion as All}
+use Rattle.std.specs.List.{AllByRecursion}
 use Rattle.x12.specs.Class.{class_of}
 use Rattle.x12.specs.Met.{Name}
 use Rattle.value.specs.declared.forms.Form.{Form}
@@ -79,8 +79,8 @@ pub record Lawful (m : Meaning) : Type 0 where
   -- A guide has at most 64 rows, each in at most four loops, with rules for the elements 1 to 30.
   pub few_rows : size m.tree ≤ 64
   pub few_loops : (n : ℕ) (s : Standing) → IsRow m n s → s.depth ≤ 4
-  pub few_elements : (n : ℕ) (s : Standing) → IsRow m n s → All (λ e. Thirty e.number) s.this.elements
-  pub few_pairs : (n : ℕ) (s : Standing) → IsRow m n s → All (λ p. Thirty p.0 × Thirty p.1) s.this.pairs
+  pub few_elements : (n : ℕ) (s : Standing) → IsRow m n s → AllByRecursion (λ e. Thirty e.number) s.this.elements
+  pub few_pairs : (n : ℕ) (s : Standing) → IsRow m n s → AllByRecursion (λ p. Thirty p.0 × Thirty p.1) s.this.pairs
   -- The first row is ST, the second BAK, the last SE, each used once, in no loop and opening none.
   pub first_is_st : Fixed m 1 (codes "ST")
   pub second_is_bak : Fixed m 2 (codes "BAK")
@@ -99,7 +99,7 @@ pub record Lawful (m : Meaning) : Type 0 where
   pub uses : (n : ℕ) (s : Standing) → IsRow m n s → (s.this.least ≤ s.this.greatest) × (1 ≤ s.this.greatest)
   -- A row's name is two or three bytes of class 1 or 2; the codes that place it are of these classes.
   pub names : (n : ℕ) (s : Standing) → IsRow m n s → Name s.this.name
-  pub placings : (n : ℕ) (s : Standing) → IsRow m n s → All (All (λ b. (class_of b ≡ 1) ⊎ (class_of b ≡ 2))) s.this.placing
+  pub placings : (n : ℕ) (s : Standing) → IsRow m n s → AllByRecursion (AllByRecursion (λ b. (class_of b ≡ 1) ⊎ (class_of b ≡ 2))) s.this.placing
   -- Two different rows that may directly follow the same row never match the same mark.
   pub followers : FollowersDisjoint (label_of m) (rows_of m)
   -- One row is PO1 and opens a loop; one is ACK and stands in it.

@@ -33,8 +33,8 @@ pub(crate) fn judge<G: Guide>(
     interchange: &[u8],
     delimiters: Delimiters,
 ) -> Result<Judgment, TotalsFault>
-    requires interchange_value { header_check interchange.now ≡ Ok tt }
-    requires separator_value { (delimiters.separator ≡ separator_of interchange.now) × ((delimiters.component ≡ component_of interchange.now) × (delimiters.terminator ≡ terminator_of interchange.now)) }
+    requires sound { header_check interchange.now ≡ Ok tt }
+    requires delimited { (delimiters.separator ≡ separator_of interchange.now) × ((delimiters.component ≡ component_of interchange.now) × (delimiters.terminator ≡ terminator_of interchange.now)) }
     ensures { MatchResult result
         (λ j. JudgedSo (G.meaning guide.now) interchange.now j)
         (λ f. First (Met (G.meaning guide.now) interchange.now) (cause_of_totals f)) }

@@ -4,7 +4,7 @@ use Rattle.std.proofs.lemmas.Slice.Eq.{bytes_eq-Decides}
 use Rattle.std.proofs.lemmas.Bool.{and_parts, eqb-true, leb-true, le-leb}
 use Rattle.std.proofs.lemmas.Bool.Decides.{Decides-and, Decides-not, Decides-eqb, Decides-ltb}
 use Rattle.std.proofs.ByRecursion.{Decides-by_and}
-use Rattle.std.specs.List.{AllByRecursion as All}
+use Rattle.std.specs.List.{AllByRecursion}
 use Rattle.std.specs.Str.{bytes_eq}
 use Rattle.grammar.specs.Marks.{OneOf}
 use Rattle.guide.specs.Meaning.{Meaning}
@@ -27,7 +27,7 @@ leb_decides : (a b : ℕ) → Decides (leb a b) (a ≤ b)
 leb_decides a b = (leb-true a b, le-leb a b)
 
 -- the loop of a line ends before p
-pub ends_decides : (p : PlacedSegment) (l : Line) → Decides (ends_before p l) (All (λ (q : PlacedSegment). l.number ≤ q.1.outer) l.behind × (p.1.outer < l.number))
+pub ends_decides : (p : PlacedSegment) (l : Line) → Decides (ends_before p l) (AllByRecursion (λ (q : PlacedSegment). l.number ≤ q.1.outer) l.behind × (p.1.outer < l.number))
 ends_decides p l =
     Decides-and (every_of (λ (q : PlacedSegment). leb l.number q.1.outer) l.behind) (ltb p.1.outer l.number)
     (Decides-by_and (λ (q : PlacedSegment). leb l.number q.1.outer) (λ (q : PlacedSegment). l.number ≤ q.1.outer) (every_of (λ (q : PlacedSegment). leb l.number q.1.outer))
@@ -43,7 +43,7 @@ true_decides b = ((λ e. e), (λ e. e))
 
 -- the loop of the last line ends before p with another sum, and the guide holds the sums
 pub ends_unlike_decides : (m : Meaning) (separator : ℕ) (z : List PlacedSegment) (p : PlacedSegment) → Decides (ends_unlike m separator z p)
-    ((m.held ≡ true) × ((l : Line) × (last_line separator z ≡ Some l) × ((All (λ (q : PlacedSegment). l.number ≤ q.1.outer) l.behind × (p.1.outer < l.number)) × (sum_of (acknowledged separator) l.behind ≢ quantity (value separator l.line 2)))))
+    ((m.held ≡ true) × ((l : Line) × (last_line separator z ≡ Some l) × ((AllByRecursion (λ (q : PlacedSegment). l.number ≤ q.1.outer) l.behind × (p.1.outer < l.number)) × (sum_of (acknowledged separator) l.behind ≢ quantity (value separator l.line 2)))))
 ends_unlike_decides m separator z p =
     Decides-and m.held (test (λ l. ends_before p l && is_unlike separator l) (last_line separator z)) (true_decides m.held)
     (test_decides (λ l. ends_before p l && is_unlike separator l) _ (λ l. Decides-and (ends_before p l) (is_unlike separator l) (ends_decides p l) (unlike_decides separator l)) (last_line separator z))

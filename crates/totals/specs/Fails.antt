@@ -1,6 +1,6 @@
 -- The faults of totals, each cause in the words of the rule book.
 use Rattle.std.specs.Prelude.{◌≡◌, ℕ, ◌<◌, ◌≤◌, true, ◌≢◌, List, [], Some}
-use Rattle.std.specs.List.{AllByRecursion as All}
+use Rattle.std.specs.List.{AllByRecursion}
 use Rattle.x12.specs.declared.faults.Fault.{Fault}
 use Rattle.x12.specs.Elements.{element_of_segment}
 use Rattle.x12.specs.Causes.{fault}
@@ -24,7 +24,7 @@ pub data TotalsFails (m : Meaning) (separator : ℕ) (z : List PlacedSegment) (p
   wrong_sum : (n : ℕ) → summed separator z p ≡ Some n → value separator p 2 ≢ [] → quantity (value separator p 2) ≢ n → TotalsFails m separator z p 15 2
   -- Where the guide holds the sums of ACK02: the loop of the last line ends before p, since all segments behind the line stand in loops that
   -- were opened at the line or later and p does not, and the sum of ACK02 in the loop is not the line's PO102.
-  unlike_sum : (l : Line) → m.held ≡ true → last_line separator z ≡ Some l → All (λ (q : PlacedSegment). l.number ≤ q.1.outer) l.behind → p.1.outer < l.number
+  unlike_sum : (l : Line) → m.held ≡ true → last_line separator z ≡ Some l → AllByRecursion (λ (q : PlacedSegment). l.number ≤ q.1.outer) l.behind → p.1.outer < l.number
       → sum_of (acknowledged separator) l.behind ≢ quantity (value separator l.line 2) → TotalsFails m separator z p 16 0
   -- ST02 occurs a second time in its group, or PO101 in its set, byte for byte
   again : {e : ℕ} → OneOf (taken separator z p e) (value separator p e) → TotalsFails m separator z p 17 e

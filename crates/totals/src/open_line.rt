@@ -19,7 +19,7 @@ pub(crate) fn line_behind(
     asked: u64,
     acknowledged: u64,
 ) -> Option<OpenLine>
-    requires some { IfSome last (λ l. l.given ≤ 655370000000000) }
+    requires small_given { IfSome last (λ l. l.given ≤ 655370000000000) }
     requires acknowledged_bound { acknowledged ≤ 10000000000 }
     ensures { result ≡ line_after last number outer line asked acknowledged }
 {

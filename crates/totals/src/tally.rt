@@ -145,8 +145,8 @@ impl<'a> Tally<'a> {
 
     // Remembers the control number of a set, or the number of a line. GS begins a group, and ST a set.
     fn remember(&mut self, row: u8, line: bool, first: &'a [u8], second: &'a [u8])
-        requires set_numbers_len_bound { row ≡ 1 → length (control_numbers_of self.old.set_numbers) < 256 }
-        requires line_numbers_len_bound { length (line_numbers_of self.old.line_numbers) < 16384 }
+        requires few_sets { row ≡ 1 → length (control_numbers_of self.old.set_numbers) < 256 }
+        requires few_lines { length (line_numbers_of self.old.line_numbers) < 16384 }
         ensures sets { control_numbers_of self.new.set_numbers ≡ (if nat_eq row 66 then [] else control_numbers_of self.old.set_numbers) ++ (if nat_eq row 1 then second.now ∷ [] else []) }
         ensures lines { line_numbers_of self.new.line_numbers ≡ (if nat_eq row 1 then [] else line_numbers_of self.old.line_numbers) ++ (if line then first.now ∷ [] else []) }
         ensures others { (self.new.counts ≡ self.old.counts) × (self.new.controls ≡ self.old.controls) × (self.new.rows ≡ self.old.rows) × (self.new.line ≡ self.old.line) }
@@ -194,9 +194,9 @@ impl<'a> Tally<'a> {
     )
         requires bytes_bound { segment.place + length segment.bytes.now < 2 ^ 64 }
         requires small_counts { SmallCounts self.old.counts }
-        requires some { IfSome self.old.line (λ l. l.given ≤ 655370000000000) }
-        requires set_numbers_len_bound { placed.row ≡ 1 → length (control_numbers_of self.old.set_numbers) < 256 }
-        requires line_numbers_len_bound { length (line_numbers_of self.old.line_numbers) < 16384 }
+        requires small_given { IfSome self.old.line (λ l. l.given ≤ 655370000000000) }
+        requires few_sets { placed.row ≡ 1 → length (control_numbers_of self.old.set_numbers) < 256 }
+        requires few_lines { length (line_numbers_of self.old.line_numbers) < 16384 }
         ensures { (z : List PlacedSegment) → number ≡ suc (length z) → TallyIs (G.meaning guide.now) separator z self.old
             → TallyIs (G.meaning guide.now) separator (z ++ ((as_segment (segment.entry.place, segment.entry.bytes.now) segment.entry.closed, spot_for placed) ∷ [])) self.new }
     {

@@ -4,7 +4,7 @@ use Rattle.std.proofs.lemmas.List.{get_or_default}
 use Rattle.std.proofs.lemmas.Bool.{leb-true, le-leb}
 use Rattle.std.proofs.lemmas.Bool.Decides.{Decides-eqb, Decides-and, Decides-like, Decides-by_or}
 use Rattle.std.proofs.ByRecursion.{Decides-by_and}
-use Rattle.std.specs.List.{AllByRecursion as All}
+use Rattle.std.specs.List.{AllByRecursion}
 use Rattle.x12.specs.Class.{within, class_of}
 use Rattle.x12.specs.Lists.{every, some}
 use Rattle.value.specs.Digits.{is_digit, digits}
@@ -40,10 +40,10 @@ pub space_decides : (b : ℕ) → Decides (is_space b) (b ≡ 32)
 space_decides b = Decides-eqb b 32
 
 -- a test of each byte
-pub every_decides : (f : ℕ → Bool) (P : ℕ → Type 0) → ((b : ℕ) → Decides (f b) (P b)) → (v : List ℕ) → Decides (every f v) (All P v)
+pub every_decides : (f : ℕ → Bool) (P : ℕ → Type 0) → ((b : ℕ) → Decides (f b) (P b)) → (v : List ℕ) → Decides (every f v) (AllByRecursion P v)
 every_decides f P each v = Decides-by_and f P (every f) each refl (λ _ _. refl) v
 
-pub digits_decides : (v : List ℕ) → Decides (digits v) (All Digit v)
+pub digits_decides : (v : List ℕ) → Decides (digits v) (AllByRecursion Digit v)
 digits_decides v = every_decides is_digit Digit digit_decides v
 
 -- a test of some byte

@@ -3,7 +3,7 @@ use Rattle.std.proofs.Common.{◌≡◌, ℕ, zero, suc, ◌+◌, ◌-◌, ◌*�
 use Rattle.std.proofs.lemmas.List.{get_or-drop, length-drop}
 use Rattle.std.proofs.lemmas.Bool.{eqb-true, eq-eqb, and_parts, and_from, cases_Bool, cond-true, cond-false, false≢true}
 use Rattle.std.proofs.lemmas.Bool.Decides.{Decides-at, Decides-like, Decides-eqb, Decides-and, not_from_Decides}
-use Rattle.std.specs.List.{between, AllByRecursion as All}
+use Rattle.std.specs.List.{between, AllByRecursion}
 use Rattle.x12.specs.Class.{within}
 use Rattle.value.specs.Digits.{digits, number_of}
 use Rattle.value.specs.Dates.{leap, days_of_month, real_day, two, day8, day6, time}
@@ -108,17 +108,17 @@ four_first (a ∷ b ∷ c ∷ d ∷ v) h = omega arith
 
 -- so many digits, and what else is tested of them
 digits_and : {P : Type 0} (v : List ℕ) (n : ℕ) (t : Bool) → (length v ≡ n → Decides t P)
-    → Decides (eqb (length v) n && (digits v && t)) ((length v ≡ n) × All Digit v × P)
+    → Decides (eqb (length v) n && (digits v && t)) ((length v ≡ n) × AllByRecursion Digit v × P)
 digits_and {P} v n t d = (means, from)
   where
-    means : (eqb (length v) n && (digits v && t)) ≡ true → (length v ≡ n) × All Digit v × P
+    means : (eqb (length v) n && (digits v && t)) ≡ true → (length v ≡ n) × AllByRecursion Digit v × P
     means h =
         let p = and_parts (eqb (length v) n) (digits v && t) h in
         let q = and_parts (digits v) t p.1 in
         let l = eqb-true (length v) n p.0 in
         (l, (digits_decides v).0 q.0, (d l).0 q.1)
 
-    from : (length v ≡ n) × All Digit v × P → (eqb (length v) n && (digits v && t)) ≡ true
+    from : (length v ≡ n) × AllByRecursion Digit v × P → (eqb (length v) n && (digits v && t)) ≡ true
     from h = and_from (eqb (length v) n) (digits v && t) (eq-eqb (length v) n h.0) (and_from (digits v) t ((digits_decides v).1 h.1) ((d h.0).1 h.2))
 
 -- the three forms

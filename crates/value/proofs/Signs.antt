@@ -2,7 +2,7 @@
 use Rattle.std.proofs.Common.{◌≡◌, ℕ, zero, suc, Bool, true, false, ◌&&◌, eqb, ◌⊎◌, List, [], ◌∷◌, Decides, sym, refl, ap, ◌∙◌, subst, inl, inr, arith}
 use Rattle.std.proofs.lemmas.Bool.{true≢false, false≢true, ne_eqb, and_left, cases_eq, cases_Bool, cond-true, cond-false}
 use Rattle.std.proofs.lemmas.Bool.Decides.{not_from_Decides, Decides-at, Decides-like}
-use Rattle.std.specs.List.{AllByRecursion as All}
+use Rattle.std.specs.List.{AllByRecursion}
 use Rattle.value.specs.Digits.{is_digit}
 use Rattle.value.specs.Decimals.{decimal_from, decimal}
 use Rattle.value.specs.Means.{Stands, Digit, Decimal}
@@ -15,7 +15,7 @@ Sign b = Digit b ⊎ ((b ≡ 46) ⊎ (b ≡ 45))
 -- The rules of a decimal for the bytes that are left: `first` says that none stands before them, `point` that a point does,
 -- and `digit` that a digit does.
 record Rest (first point digit : Bool) (v : List ℕ) : Type 0 where
-  bytes : All Sign v
+  bytes : AllByRecursion Sign v
   minus : (k : ℕ) → Stands v k 45 → (first ≡ true) × (k ≡ 0)
   once : (j k : ℕ) → Stands v j 46 → Stands v k 46 → (point ≡ false) × (j ≡ k)
   some_digit : (digit ≡ true) ⊎ ((k b : ℕ) × Stands v k b × Digit b)

@@ -1,6 +1,6 @@
 -- The types of elements in the words of the rules, and that the tests decide them.
 use Rattle.std.specs.Prelude.{◌≡◌, ℕ, ◌+◌, ◌%◌, ◌<◌, ◌≤◌, ◌⊎◌, List, length, Decides, ◌≢◌, slice_index}
-use Rattle.std.specs.List.{between, AllByRecursion as All}
+use Rattle.std.specs.List.{between, AllByRecursion}
 use Rattle.x12.specs.Class.{class_of}
 use Rattle.value.specs.declared.forms.Form.{Form}
 use Rattle.value.specs.declared.forms.Form.TheVariants.{N0, Q, Id, An, R, D8, D6, Tm, Spaces, Free}
@@ -17,17 +17,17 @@ Digit b = (48 ≤ b) × (b ≤ 57)
 
 -- a code: each byte is of class 1 or 2
 abbrev pub Code : List ℕ → Type 0
-Code v = All (λ b. (class_of b ≡ 1) ⊎ (class_of b ≡ 2)) v
+Code v = AllByRecursion (λ b. (class_of b ≡ 1) ⊎ (class_of b ≡ 2)) v
 
 -- a text: each byte is of class 1 to 5, and some byte is no space (32)
 pub record Text (v : List ℕ) : Type 0 where
-  pub bytes : All (λ b. (1 ≤ class_of b) × (class_of b ≤ 5)) v
+  pub bytes : AllByRecursion (λ b. (1 ≤ class_of b) × (class_of b ≤ 5)) v
   pub filled : (k b : ℕ) × Stands v k b × (b ≢ 32)
 
 -- A decimal: each byte is a digit, a point (46) or a minus (45); a minus stands only at place 0; two points never stand at two
 -- different places; some byte is a digit.
 pub record Decimal (v : List ℕ) : Type 0 where
-  pub bytes : All (λ b. Digit b ⊎ ((b ≡ 46) ⊎ (b ≡ 45))) v
+  pub bytes : AllByRecursion (λ b. Digit b ⊎ ((b ≡ 46) ⊎ (b ≡ 45))) v
   pub minus : (k : ℕ) → Stands v k 45 → k ≡ 0
   pub point : (j k : ℕ) → Stands v j 46 → Stands v k 46 → j ≡ k
   pub digit : (k b : ℕ) × Stands v k b × Digit b
@@ -62,33 +62,33 @@ pub record RealDay (year month day : ℕ) : Type 0 where
 -- CCYYMMDD: eight digits, and a day of the calendar with the year, month and day that they write
 pub record Day8 (v : List ℕ) : Type 0 where
   pub long : length v ≡ 8
-  pub bytes : All Digit v
+  pub bytes : AllByRecursion Digit v
   pub real : RealDay (number_of (between 0 4 v)) (number_of (between 4 6 v)) (number_of (between 6 8 v))
 
 -- YYMMDD: six digits, and a day of the calendar with the month and day that they write, in the year 20YY, which is YY years past 2000
 pub record Day6 (v : List ℕ) : Type 0 where
   pub long : length v ≡ 6
-  pub bytes : All Digit v
+  pub bytes : AllByRecursion Digit v
   pub real : RealDay (2000 + number_of (between 0 2 v)) (number_of (between 2 4 v)) (number_of (between 4 6 v))
 
 -- HHMM: four digits, which write hours up to 23 and minutes up to 59
 pub record Time (v : List ℕ) : Type 0 where
   pub long : length v ≡ 4
-  pub bytes : All Digit v
+  pub bytes : AllByRecursion Digit v
   pub hours : number_of (between 0 2 v) ≤ 23
   pub minutes : number_of (between 2 4 v) ≤ 59
 
 -- the value is of the form
 abbrev pub HasType : Form → List ℕ → Type 0
-HasType N0 v = All Digit v
-HasType Q v = All Digit v
+HasType N0 v = AllByRecursion Digit v
+HasType Q v = AllByRecursion Digit v
 HasType Id v = Code v
 HasType An v = Text v
 HasType R v = Decimal v
 HasType D8 v = Day8 v
 HasType D6 v = Day6 v
 HasType Tm v = Time v
-HasType Spaces v = All (λ b. b ≡ 32) v
+HasType Spaces v = AllByRecursion (λ b. b ≡ 32) v
 HasType Free v = Unit {0}
 
 -- the test of each form decides whether a value is of the form

@@ -1,7 +1,7 @@
 -- The verdicts of the worked interchanges, computed by the judgment, and their lines.
 use Rattle.std.proofs.Common.{◌≡◌, ℕ, List, [], ◌∷◌, map, refl, subst}
 use mathlib.Core.List.{head-eq_of_cons-eq, tail-eq_of_cons-eq}
-use Rattle.std.specs.List.{AllByRecursion as All}
+use Rattle.std.specs.List.{AllByRecursion}
 use Rattle.x12.specs.Header.{layout_holds}
 use Rattle.std.specs.Fmt.{digits}
 use Rattle.guides.specs.GuideB.{guide_b_meaning}
@@ -13,7 +13,7 @@ use Rattle.worked.specs.Cases.{worked}
 use Rattle.worked.specs.Worked.{WorkedCases, worked_lines, ToldBy}
 
 -- where two lists of answers are the same, what holds of each of the first holds of each of the second
-all_alike : {X V : Type 0} (P : X → V → Type 0) (f g : X → V) → ((x : X) → P x (f x)) → (xs : List X) → map f xs ≡ map g xs → All (λ x. P x (g x)) xs
+all_alike : {X V : Type 0} (P : X → V → Type 0) (f g : X → V) → ((x : X) → P x (f x)) → (xs : List X) → map f xs ≡ map g xs → AllByRecursion (λ x. P x (g x)) xs
 all_alike P f g h [] e = tt
 all_alike P f g h (x ∷ xs) e = (subst (P x) (head-eq_of_cons-eq e) (h x), all_alike P f g h xs (tail-eq_of_cons-eq e))
 

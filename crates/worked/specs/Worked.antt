@@ -1,6 +1,6 @@
 -- What is proved of the worked interchanges: their verdicts, and the lines that tell them.
 use Rattle.std.specs.Prelude.{◌≡◌, ℕ, List, [], ◌∷◌, ◌++◌, map, codes}
-use Rattle.std.specs.List.{AllByRecursion as All}
+use Rattle.std.specs.List.{AllByRecursion}
 use Rattle.guides.specs.GuideB.{guide_b_meaning}
 use Rattle.verdict.specs.declared.verdicts.Verdict.{Verdict}
 use Rattle.verdict.specs.Line.{line_of}
@@ -9,7 +9,7 @@ use Rattle.worked.specs.Cases.{worked}
 
 -- Read under guide B with so many segment rows and loop rows, each has the verdict that stands beside it.
 abbrev pub WorkedCases : ℕ → ℕ → Type 0
-WorkedCases rows_of_segments rows_of_loops = All (λ (c : List ℕ × Verdict). VerdictOf guide_b_meaning c.0 rows_of_segments rows_of_loops c.1) worked
+WorkedCases rows_of_segments rows_of_loops = AllByRecursion (λ (c : List ℕ × Verdict). VerdictOf guide_b_meaning c.0 rows_of_segments rows_of_loops c.1) worked
 
 -- a text with byte 10 at its end
 abbrev pub as_line : List ℕ → List ℕ

@@ -4,7 +4,7 @@ use native.Mathlib.Nat.{sub-zero}
 use Rattle.std.proofs.ByRecursion.{has_get_or, Decides-by_and}
 use Rattle.std.proofs.lemmas.Bool.{true≢false, not-true, not_from_false, eqb-true, eq-eqb, leb-true, le-leb, and_parts, and_from, or_cases, or_left, or_right, cases_Bool, cases_order}
 use Rattle.std.proofs.lemmas.Bool.Decides.{Decides-eqb, Decides-or, Decides-by_or}
-use Rattle.std.specs.List.{ContainsAt as Has, AllByRecursion as All}
+use Rattle.std.specs.List.{ContainsAt as Has, AllByRecursion}
 use Rattle.x12.specs.declared.faults.Fault.{Fault}
 use Rattle.x12.specs.Class.{class_of, within}
 use Rattle.x12.specs.Lists.{every, some, nth, Item, and_then, each}
@@ -52,7 +52,7 @@ name_byte_decides b = (means, from)
 pub name_decides : (v : List ℕ) → Decides (good_name v) (Name v)
 name_decides v = (means, from)
   where
-    bytes : Decides (every name_byte v) (All (λ b. (class_of b ≡ 1) ⊎ (class_of b ≡ 2)) v)
+    bytes : Decides (every name_byte v) (AllByRecursion (λ b. (class_of b ≡ 1) ⊎ (class_of b ≡ 2)) v)
     bytes = Decides-by_and name_byte (λ b. (class_of b ≡ 1) ⊎ (class_of b ≡ 2)) (every name_byte) name_byte_decides refl (λ _ _. refl) v
 
     means : good_name v ≡ true → Name v

@@ -1,6 +1,6 @@
 -- The faults of the byte layer that an interchange meets, each cause in the words of the rule book.
 use Rattle.std.specs.Prelude.{◌≡◌, ℕ, ◌≤◌, false, cond, ◌⊎◌, List, length, nat_le}
-use Rattle.std.specs.List.{ContainsAt as Has, AllByRecursion as All}
+use Rattle.std.specs.List.{ContainsAt as Has, AllByRecursion}
 use Rattle.x12.specs.declared.faults.Fault.{Fault}
 use Rattle.x12.specs.Class.{class_of}
 use Rattle.x12.specs.Lists.{Item}
@@ -19,7 +19,7 @@ IsElement I s e p = Item 0 (elements_of (separator_of I) s) e p
 
 -- a name: two or three bytes of class 1 or 2
 abbrev pub Name : List ℕ → Type 0
-Name v = (2 ≤ length v) × (length v ≤ 3) × All (λ b. (class_of b ≡ 1) ⊎ (class_of b ≡ 2)) v
+Name v = (2 ≤ length v) × (length v ≤ 3) × AllByRecursion (λ b. (class_of b ≡ 1) ⊎ (class_of b ≡ 2)) v
 
 -- a byte that no element may hold: one of class 0, or a component separator
 abbrev pub Unfit : List ℕ → ℕ → Type 0

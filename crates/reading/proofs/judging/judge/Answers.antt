@@ -29,60 +29,60 @@ turn_by m x y k₀ l₀ k z s p t r a b h = subst (λ (q : ℕ × ℕ). TurnIs m
 pub loop-segment-init : goal.loop-segment-init
 loop-segment-init g c =
     let m = g.G.Guide.meaning c.args.guide.now in
-    ([], underway_start m c.args.interchange.now tt c.requires.0 c.start-placer.result c.new-tally.result (c.start-placer.ensures m) (c.new-tally.ensures m (separator_of c.args.interchange.now)))
+    ([], underway_start m c.args.interchange.now tt c.requires.sound c.start-placer.result c.new-tally.result (c.start-placer.ensures m) (c.new-tally.ensures m (separator_of c.args.interchange.now)))
 
-pub judge-segment-requires : goal.judge-segment-requires
-judge-segment-requires g c =
+pub judge_segment-requires : goal.judge_segment-requires
+judge_segment-requires g c =
     let m = g.G.Guide.meaning c.args.guide.now in
     let I = c.args.interchange.now in
     let s : Segment = segment (c.in-Some.segment.place, c.in-Some.segment.bytes.now) c.in-Some.segment.closed in
     let f = c.in-Some.ensures in
     let inside = f.inside in
     let i = c.loop-segment.invariant in
-    let b = few_bytes m I tt c.requires.0 in
-    let et = c.requires.1.1.1 in (
-      omega arith,
-      (
+    let b = few_bytes m I tt c.requires.sound in
+    let et = c.requires.delimited.1.1 in record {
+      bytes_bound = omega arith;
+      stands = (
         i.0,
-        subst (λ (x : ℕ). Stands m x (c.loop-segment.count + 1) i.0 c.loop-segment.placer c.loop-segment.tally) (sym c.requires.1.0)
-            (stands m I tt c.requires.0 c.loop-segment.count c.loop-segment.loops c.loop-segment.at c.loop-segment.placer c.loop-segment.tally i.0 i.1 s
+        subst (λ (x : ℕ). Stands m x (c.loop-segment.count + 1) i.0 c.loop-segment.placer c.loop-segment.tally) (sym c.requires.delimited.0)
+            (stands m I tt c.requires.sound c.loop-segment.count c.loop-segment.loops c.loop-segment.at c.loop-segment.placer c.loop-segment.tally i.0 i.1 s
             (subst (λ (t : ℕ). segments_from t c.loop-segment.at I ≡ s ∷ segments_from t (s.place + length s.bytes + 1) I) et f.next) f.low inside),
-      ),
-    )
+      );
+    }
 
 -- the answer of a judgment that stopped
 stopped : (m : Meaning) (I : List ℕ) (r : Result Judgment TotalsFault) (f : TotalsFault) → r ≡ Err f → First (Met m I) (cause_of_totals f) → MatchResult r (λ j. JudgedSo m I j) (λ f. First (Met m I) (cause_of_totals f))
 stopped m I r f e h = subst (λ (x : Result Judgment TotalsFault). MatchResult x (λ j. JudgedSo m I j) (λ f. First (Met m I) (cause_of_totals f))) (sym e) h
 
-pub returns-in-err-placed : goal.returns-in-err-placed
-returns-in-err-placed g c =
+pub returns-in_err-placed : goal.returns-in_err-placed
+returns-in_err-placed g c =
     let m = g.G.Guide.meaning c.args.guide.now in
     let I = c.args.interchange.now in
     let s : Segment = segment (c.in-Some.segment.place, c.in-Some.segment.bytes.now) c.in-Some.segment.closed in
     let f = c.in-Some.ensures in
     let i = c.loop-segment.invariant in
-    let es = c.requires.1.0 in
-    let ec = c.requires.1.1.0 in
-    let et = c.requires.1.1.1 in
+    let es = c.requires.delimited.0 in
+    let ec = c.requires.delimited.1.0 in
+    let et = c.requires.delimited.1.1 in
     let next : segments_from (terminator_of I) c.loop-segment.at I ≡ s ∷ segments_from (terminator_of I) (s.place + length s.bytes + 1) I =
     subst (λ (t : ℕ). segments_from t c.loop-segment.at I ≡ s ∷ segments_from t (s.place + length s.bytes + 1) I) et f.next in
-    let st = stands m I tt c.requires.0 c.loop-segment.count c.loop-segment.loops c.loop-segment.at c.loop-segment.placer c.loop-segment.tally i.0 i.1 s next f.low f.inside in
-    let p = err_from_is_err_and c.from-residual.result c.from-residual.ensures.1 in
-    let fault = c.in-err-placed.field-0.0 in
-    let t = turn_by m c.args.delimiters.separator (separator_of I) c.args.delimiters.component (component_of I) (c.loop-segment.count + 1) i.0 s c.judge-segment.new.placer c.judge-segment.new.tally (Err fault) es ec
-    (c.in-err-placed.ensures i.0 (subst (λ (x : ℕ). Stands m x (c.loop-segment.count + 1) i.0 c.loop-segment.placer c.loop-segment.tally) (sym es) st)) in
-    stopped m I c.from-residual.result p.0 p.1
+    let st = stands m I tt c.requires.sound c.loop-segment.count c.loop-segment.loops c.loop-segment.at c.loop-segment.placer c.loop-segment.tally i.0 i.1 s next f.low f.inside in
+    let p = err_from_is_err_and c.from_residual.result c.from_residual.ensures.1 in
+    let fault = c.in_err-placed.field-0.0 in
+    let t = turn_by m c.args.delimiters.separator (separator_of I) c.args.delimiters.component (component_of I) (c.loop-segment.count + 1) i.0 s c.judge_segment.new.placer c.judge_segment.new.tally (Err fault) es ec
+    (c.in_err-placed.ensures i.0 (subst (λ (x : ℕ). Stands m x (c.loop-segment.count + 1) i.0 c.loop-segment.placer c.loop-segment.tally) (sym es) st)) in
+    stopped m I c.from_residual.result p.0 p.1
     (subst (λ (e : TotalsFault). First (Met m I) (cause_of_totals e)) (sym p.2)
-    (refused m I tt c.requires.0 c.loop-segment.count c.loop-segment.loops c.loop-segment.at c.loop-segment.placer c.loop-segment.tally i.0 i.1 s next f.low f.inside t.0 (cause_of_totals fault) t.1 t.2))
+    (refused m I tt c.requires.sound c.loop-segment.count c.loop-segment.loops c.loop-segment.at c.loop-segment.placer c.loop-segment.tally i.0 i.1 s next f.low f.inside t.0 (cause_of_totals fault) t.1 t.2))
 
-pub overflow-add-loops : goal.overflow-add-loops
-overflow-add-loops g c =
+pub overflow_add-loops : goal.overflow_add-loops
+overflow_add-loops g c =
     let i = c.loop-segment.invariant in
     let n = i.1.number in
     let w = i.1.within in
     let f = i.1.few in
     let o = i.1.opened in
-    let b = few_bytes (g.G.Guide.meaning c.args.guide.now) c.args.interchange.now tt c.requires.0 in
+    let b = few_bytes (g.G.Guide.meaning c.args.guide.now) c.args.interchange.now tt c.requires.sound in
     omega (arith, loops_within 1 i.0)
 
 pub loop-segment-preserved : goal.loop-segment-preserved
@@ -92,42 +92,42 @@ loop-segment-preserved g c =
     let s : Segment = segment (c.in-Some.segment.place, c.in-Some.segment.bytes.now) c.in-Some.segment.closed in
     let f = c.in-Some.ensures in
     let i = c.loop-segment.invariant in
-    let es = c.requires.1.0 in
-    let ec = c.requires.1.1.0 in
-    let et = c.requires.1.1.1 in
-    let placed = c.in-ok-placed.placed in
+    let es = c.requires.delimited.0 in
+    let ec = c.requires.delimited.1.0 in
+    let et = c.requires.delimited.1.1 in
+    let placed = c.in_ok-placed.placed in
     let next : segments_from (terminator_of I) c.loop-segment.at I ≡ s ∷ segments_from (terminator_of I) (s.place + length s.bytes + 1) I =
     subst (λ (t : ℕ). segments_from t c.loop-segment.at I ≡ s ∷ segments_from t (s.place + length s.bytes + 1) I) et f.next in
-    let st = stands m I tt c.requires.0 c.loop-segment.count c.loop-segment.loops c.loop-segment.at c.loop-segment.placer c.loop-segment.tally i.0 i.1 s next f.low f.inside in
-    let t = turn_by m c.args.delimiters.separator (separator_of I) c.args.delimiters.component (component_of I) (c.loop-segment.count + 1) i.0 s c.judge-segment.new.placer c.judge-segment.new.tally (Ok placed) es ec
-    (c.in-ok-placed.ensures i.0 (subst (λ (x : ℕ). Stands m x (c.loop-segment.count + 1) i.0 c.loop-segment.placer c.loop-segment.tally) (sym es) st)) in
+    let st = stands m I tt c.requires.sound c.loop-segment.count c.loop-segment.loops c.loop-segment.at c.loop-segment.placer c.loop-segment.tally i.0 i.1 s next f.low f.inside in
+    let t = turn_by m c.args.delimiters.separator (separator_of I) c.args.delimiters.component (component_of I) (c.loop-segment.count + 1) i.0 s c.judge_segment.new.placer c.judge_segment.new.tally (Ok placed) es ec
+    (c.in_ok-placed.ensures i.0 (subst (λ (x : ℕ). Stands m x (c.loop-segment.count + 1) i.0 c.loop-segment.placer c.loop-segment.tally) (sym es) st)) in
     let opened : c.if-placed-count.loops ≡ c.loop-segment.loops + cond (eqb placed.around (c.loop-segment.count + 1)) 1 0 =
     elim c.if-placed-count.branch [
       | then-placed-count w ↦ w.loops-is ∙ ap (λ (n : ℕ). c.loop-segment.loops + n) (sym (cond-true (eqb placed.around (c.loop-segment.count + 1)) 1 0 (eq-eqb placed.around (c.loop-segment.count + 1) w.if-placed-count.true)))
       | else-placed-count w ↦ w.loops-is ∙ sym (add-zero c.loop-segment.loops) ∙ ap (λ (n : ℕ). c.loop-segment.loops + n) (sym (cond-false (eqb placed.around (c.loop-segment.count + 1)) 1 0 (ne_eqb placed.around (c.loop-segment.count + 1) w.if-placed-count.false)))
     ] in (
       _,
-      passed m I tt c.requires.0 c.loop-segment.count c.loop-segment.loops c.loop-segment.at c.loop-segment.placer c.loop-segment.tally i.0 i.1 s next f.low f.inside
-          placed c.judge-segment.new.placer c.judge-segment.new.tally c.if-placed-count.loops t.0 t.1 t.2 t.3 opened,
+      passed m I tt c.requires.sound c.loop-segment.count c.loop-segment.loops c.loop-segment.at c.loop-segment.placer c.loop-segment.tally i.0 i.1 s next f.low f.inside
+          placed c.judge_segment.new.placer c.judge_segment.new.tally c.if-placed-count.loops t.0 t.1 t.2 t.3 opened,
     )
 
-pub returns-then-not-is-whole : goal.returns-then-not-is-whole
-returns-then-not-is-whole g c =
+pub returns-then-not-is_whole : goal.returns-then-not-is_whole
+returns-then-not-is_whole g c =
     let m = g.G.Guide.meaning c.args.guide.now in
     let I = c.args.interchange.now in
     let i = c.loop-segment.invariant in
-    let et = c.requires.1.1.1 in
-    begun m I tt c.requires.0 c.loop-segment.count c.loop-segment.loops c.loop-segment.at c.loop-segment.placer c.loop-segment.tally i.0 i.1
-    (subst (λ (t : ℕ). segments_from t c.loop-segment.at I ≡ []) et c.in-default.ensures)
-    (c.if-not-is-whole.ensures m (g.G.Guide.lawful c.args.guide.now) _ i.1.placed)
+    let et = c.requires.delimited.1.1 in
+    begun m I tt c.requires.sound c.loop-segment.count c.loop-segment.loops c.loop-segment.at c.loop-segment.placer c.loop-segment.tally i.0 i.1
+    (subst (λ (t : ℕ). segments_from t c.loop-segment.at I ≡ []) et c.in_default.ensures)
+    (c.if-not-is_whole.ensures m (g.G.Guide.lawful c.args.guide.now) _ i.1.placed)
 
 pub returns : goal.returns
 returns g c =
     let m = g.G.Guide.meaning c.args.guide.now in
     let I = c.args.interchange.now in
     let i = c.loop-segment.invariant in
-    let et = c.requires.1.1.1 in
-    whole m I tt c.requires.0 c.loop-segment.count c.loop-segment.loops c.loop-segment.at c.loop-segment.placer c.loop-segment.tally i.0 i.1
-    (subst (λ (t : ℕ). segments_from t c.loop-segment.at I ≡ []) et c.in-default.ensures)
+    let et = c.requires.delimited.1.1 in
+    whole m I tt c.requires.sound c.loop-segment.count c.loop-segment.loops c.loop-segment.at c.loop-segment.placer c.loop-segment.tally i.0 i.1
+    (subst (λ (t : ℕ). segments_from t c.loop-segment.at I ≡ []) et c.in_default.ensures)
     _ refl refl refl refl refl
-    (c.if-not-is-whole.ensures m (g.G.Guide.lawful c.args.guide.now) _ i.1.placed)
+    (c.if-not-is_whole.ensures m (g.G.Guide.lawful c.args.guide.now) _ i.1.placed)

@@ -29,21 +29,21 @@ returns-in-Err g c =
     promise_refused m I c.args.segments.now c.args.loops.now c.from.result
     (subst (λ (f : TotalsFault). First (Met m I) (cause_of_totals f)) (sym c.from.ensures) (header_first m I _ c.in-Err.ensures))
 
-pub returns-in-err-judgment : goal.returns-in-err-judgment
-returns-in-err-judgment g c =
+pub returns-in_err-judgment : goal.returns-in_err-judgment
+returns-in_err-judgment g c =
     let m = g.G.Guide.meaning c.args.guide.now in
     let I = c.args.interchange.now in
     let S = c.args.segments.now in
     let L = c.args.loops.now in
-    let p = err_from_is_err_and c.from-residual.result c.from-residual.ensures.1 in
+    let p = err_from_is_err_and c.from_residual.result c.from_residual.ensures.1 in
     subst (λ (r : Result Totals ReadingFault). ReadingIs m I S S L L r) (sym (p.1 ∙ ap Err p.2))
-    (promise_refused m I S L c.in-err-judgment.field-0.0 c.in-err-judgment.ensures)
+    (promise_refused m I S L c.in_err-judgment.field-0.0 c.in_err-judgment.ensures)
 
 pub returns-then-judgment-segments : goal.returns-then-judgment-segments
 returns-then-judgment-segments g c =
     let m = g.G.Guide.meaning c.args.guide.now in
     let I = c.args.interchange.now in
-    let s = c.in-ok-judgment.ensures in
+    let s = c.in_ok-judgment.ensures in
     let a = s.segments in
     let b = s.loops in
     promise_few m I c.args.segments.now c.args.loops.now s.regular s.derivation s.derived s.one
@@ -56,11 +56,11 @@ returns g c =
     let S = c.args.segments.now in
     let L = c.args.loops.now in
     let d = c.in-Ok.ensures in
-    let s = c.in-ok-judgment.ensures in
+    let s = c.in_ok-judgment.ensures in
     let a = s.segments in
     let b = s.loops in
     let enough : length s.derivation ≤ length S = (let l = c.if-judgment-segments.false in omega arith) in
     let loops_enough : loops_in s.derivation ≤ length L = (let l = c.if-judgment-loops.false in omega arith) in
-    subst (λ (t : Totals). ReadingIs m I S c.fill.new.segments L c.fill.new.loops (Ok t)) (sym (told m I c.in-ok-judgment.judgment s))
+    subst (λ (t : Totals). ReadingIs m I S c.fill.new.segments L c.fill.new.loops (Ok t)) (sym (told m I c.in_ok-judgment.judgment s))
     (promise_accepted m I S c.fill.new.segments L c.fill.new.loops s.regular s.derivation s.derived s.one enough loops_enough
     (c.fill.ensures s.derivation (record { derived = s.derived; ends = d.3; parts = d.1; room = enough; loop_room = loops_enough })))

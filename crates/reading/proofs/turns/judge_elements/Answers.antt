@@ -22,33 +22,33 @@ behind m x k z s placed = and_then (elements_check m x k (is_row_lacking m x z (
 stopped : (cause : ElementFault → Fault) (r : Result Placed ElementFault) (f : ElementFault) (check : Result Placed Fault) → r ≡ Err f → check ≡ Err (cause f) → AnswersWith cause r check
 stopped cause r f check e h = subst (λ (x : Result Placed ElementFault). AnswersWith cause x check) (sym e) h
 
-pub returns-in-err-placed : goal.returns-in-err-placed
-returns-in-err-placed g c =
+pub returns-in_err-placed : goal.returns-in_err-placed
+returns-in_err-placed g c =
     let m = g.G.Guide.meaning c.args.guide.now in
     let x = c.args.delimiters.separator in
     let s : Segment = segment (c.args.segment.place, c.args.segment.bytes.now) c.args.segment.closed in
-    let t = c.in-err-placed.ensures in
-    let p = err_from_is_err_and c.from-residual.result c.from-residual.ensures.1 in (
+    let t = c.in_err-placed.ensures in
+    let p = err_from_is_err_and c.from_residual.result c.from_residual.ensures.1 in (
       t.0,
       t.1,
-      λ z is. stopped cause_of_element c.from-residual.result p.0 _ p.1
+      λ z is. stopped cause_of_element c.from_residual.result p.0 _ p.1
           (ap (λ (r : Result Placed Fault). and_then r (behind m x c.args.number z s)) t.2 ∙ ap (λ (f : ElementFault). Err (cause_of_element f)) (sym p.2)),
     )
 
-pub returns-in-err-check-elements : goal.returns-in-err-check-elements
-returns-in-err-check-elements g c =
+pub returns-in_err-check_elements : goal.returns-in_err-check_elements
+returns-in_err-check_elements g c =
     let m = g.G.Guide.meaning c.args.guide.now in
     let x = c.args.delimiters.separator in
     let s : Segment = segment (c.args.segment.place, c.args.segment.bytes.now) c.args.segment.closed in
-    let placed = c.in-ok-placed.placed in
-    let t = c.in-ok-placed.ensures in
-    let p = err_from_is_err_and c.from-residual-in-err-check-elements.result c.from-residual-in-err-check-elements.ensures.1 in (
+    let placed = c.in_ok-placed.placed in
+    let t = c.in_ok-placed.ensures in
+    let p = err_from_is_err_and c.from_residual-in_err-check_elements.result c.from_residual-in_err-check_elements.ensures.1 in (
       t.0,
       t.1,
-      λ z is. stopped cause_of_element c.from-residual-in-err-check-elements.result p.0 _ p.1
+      λ z is. stopped cause_of_element c.from_residual-in_err-check_elements.result p.0 _ p.1
           (ap (λ (r : Result Placed Fault). and_then r (behind m x c.args.number z s)) t.2
-          ∙ ap (λ (b : Bool). and_then (elements_check m x c.args.number b placed.row s) (λ u. Ok placed)) (sym (c.lacks-row-lacking.ensures m x z (s, spot_for placed) is refl (sym c.bytes-in-name.ensures)))
-          ∙ ap (λ (r : Result (Unit {0}) Fault). and_then r (λ u. Ok placed)) c.in-err-check-elements.ensures
+          ∙ ap (λ (b : Bool). and_then (elements_check m x c.args.number b placed.row s) (λ u. Ok placed)) (sym (c.lacks_row-lacking.ensures m x z (s, spot_for placed) is refl (sym c.bytes_in-name.ensures)))
+          ∙ ap (λ (r : Result (Unit {0}) Fault). and_then r (λ u. Ok placed)) c.in_err-check_elements.ensures
           ∙ ap (λ (f : ElementFault). Err (cause_of_element f)) (sym p.2)),
     )
 
@@ -57,11 +57,11 @@ returns g c =
     let m = g.G.Guide.meaning c.args.guide.now in
     let x = c.args.delimiters.separator in
     let s : Segment = segment (c.args.segment.place, c.args.segment.bytes.now) c.args.segment.closed in
-    let placed = c.in-ok-placed.placed in
-    let t = c.in-ok-placed.ensures in (
+    let placed = c.in_ok-placed.placed in
+    let t = c.in_ok-placed.ensures in (
       t.0,
       t.1,
       λ z is. ap (λ (r : Result Placed Fault). and_then r (behind m x c.args.number z s)) t.2
-          ∙ ap (λ (b : Bool). and_then (elements_check m x c.args.number b placed.row s) (λ u. Ok placed)) (sym (c.lacks-row-lacking.ensures m x z (s, spot_for placed) is refl (sym c.bytes-in-name.ensures)))
-          ∙ ap (λ (r : Result (Unit {0}) Fault). and_then r (λ u. Ok placed)) c.in-ok-check-elements.ensures,
+          ∙ ap (λ (b : Bool). and_then (elements_check m x c.args.number b placed.row s) (λ u. Ok placed)) (sym (c.lacks_row-lacking.ensures m x z (s, spot_for placed) is refl (sym c.bytes_in-name.ensures)))
+          ∙ ap (λ (r : Result (Unit {0}) Fault). and_then r (λ u. Ok placed)) c.in_ok-check_elements.ensures,
     )

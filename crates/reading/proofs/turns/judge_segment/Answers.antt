@@ -24,57 +24,57 @@ stopped : (m : Meaning) (x k₀ k : ℕ) (z : List PlacedSegment) (s : Segment) 
     → r ≡ Err f → Placement m x z s o → check_by m x k₀ k z s o ≡ Err (cause_of_totals f) → TurnIs m x k₀ k z s p t r
 stopped m x k₀ k z s p t r f o e h q = subst (λ (y : Result Placed TotalsFault). TurnIs m x k₀ k z s p t y) (sym e) (o, h, q)
 
-pub returns-in-err-placed : goal.returns-in-err-placed
-returns-in-err-placed g c = λ z st.
+pub returns-in_err-placed : goal.returns-in_err-placed
+returns-in_err-placed g c = λ z st.
     let m = g.G.Guide.meaning c.args.guide.now in
     let x = c.args.delimiters.separator in
     let k₀ = c.args.delimiters.component in
     let k = c.args.number in
     let s : Segment = segment (c.args.segment.place, c.args.segment.bytes.now) c.args.segment.closed in
-    let t = c.in-err-placed.ensures in
-    let p = err_from_is_err_and c.from-residual.result c.from-residual.ensures.1 in
-    stopped m x k₀ k z s c.judge-elements.new.placer c.args.tally.now c.from-residual.result p.0 (over spot_for t.0) p.1
+    let t = c.in_err-placed.ensures in
+    let p = err_from_is_err_and c.from_residual.result c.from_residual.ensures.1 in
+    stopped m x k₀ k z s c.judge_elements.new.placer c.args.tally.now c.from_residual.result p.0 (over spot_for t.0) p.1
     (placement m x k z s c.args.placer.now _ st.placed st.number t.0 t.1)
     (lower_refused m x k₀ k z s t.0 _ (t.2 z st.counted) ∙ ap (λ (f : TotalsFault). Err (cause_of_totals f)) (sym p.2))
 
 pub check-requires : goal.check-requires
 check-requires g c =
     let m = g.G.Guide.meaning c.args.guide.now in
-    let st = c.requires.1.1 in
-    (c.requires.0, small_counts_lem m c.args.delimiters.separator c.requires.1.0 c.args.tally.now st.counted st.few)
+    let st = c.requires.stands.1 in
+    record { bytes_bound = c.requires.bytes_bound; small_counts = small_counts_lem m c.args.delimiters.separator c.requires.stands.0 c.args.tally.now st.counted st.few }
 
-pub returns-in-err-check : goal.returns-in-err-check
-returns-in-err-check g c = λ z st.
+pub returns-in_err-check : goal.returns-in_err-check
+returns-in_err-check g c = λ z st.
     let m = g.G.Guide.meaning c.args.guide.now in
     let x = c.args.delimiters.separator in
     let k₀ = c.args.delimiters.component in
     let k = c.args.number in
     let s : Segment = segment (c.args.segment.place, c.args.segment.bytes.now) c.args.segment.closed in
-    let placed = c.in-ok-placed.placed in
-    let t = c.in-ok-placed.ensures in
+    let placed = c.in_ok-placed.placed in
+    let t = c.in_ok-placed.ensures in
     let low = lower_passed m x k₀ k z s t.0 placed (t.2 z st.counted) in
-    let p = err_from_is_err_and c.from-residual-in-err-check.result c.from-residual-in-err-check.ensures.1 in
+    let p = err_from_is_err_and c.from_residual-in_err-check.result c.from_residual-in_err-check.ensures.1 in
     let h : Placement m x z s (Some (spot_for placed)) = subst (λ (o : Option Placed). Placement m x z s (over spot_for o)) low.1 (placement m x k z s c.args.placer.now _ st.placed st.number t.0 t.1) in
-    stopped m x k₀ k z s c.judge-elements.new.placer c.args.tally.now c.from-residual-in-err-check.result p.0 (Some (spot_for placed)) p.1 h
-    (upper_refused m x k₀ k z s placed _ low.0 low.2 (c.in-err-check.ensures z st.counted) ∙ ap (λ (f : TotalsFault). Err (cause_of_totals f)) (sym p.2))
+    stopped m x k₀ k z s c.judge_elements.new.placer c.args.tally.now c.from_residual-in_err-check.result p.0 (Some (spot_for placed)) p.1 h
+    (upper_refused m x k₀ k z s placed _ low.0 low.2 (c.in_err-check.ensures z st.counted) ∙ ap (λ (f : TotalsFault). Err (cause_of_totals f)) (sym p.2))
 
 pub add-requires : goal.add-requires
 add-requires g c =
     let m = g.G.Guide.meaning c.args.guide.now in
     let x = c.args.delimiters.separator in
-    let z = c.requires.1.0 in
-    let st = c.requires.1.1 in
+    let z = c.requires.stands.0 in
+    let st = c.requires.stands.1 in
     let s : Segment = segment (c.args.segment.place, c.args.segment.bytes.now) c.args.segment.closed in
-    let placed = c.in-ok-placed.placed in
-    let t = c.in-ok-placed.ensures in
+    let placed = c.in_ok-placed.placed in
+    let t = c.in_ok-placed.ensures in
     let low = lower_passed m x c.args.delimiters.component c.args.number z s t.0 placed (t.2 z st.counted) in
-    let h : Placement m x z s (Some (spot_for placed)) = subst (λ (o : Option Placed). Placement m x z s (over spot_for o)) low.1 (placement m x c.args.number z s c.args.placer.now _ st.placed st.number t.0 t.1) in (
-      c.requires.0,
-      small_counts_lem m x z c.args.tally.now st.counted st.few,
-      small_given m x z c.args.tally.now st.counted st.few,
-      few_control_numbers m x z c.args.tally.now st.counted (g.G.Guide.lawful c.args.guide.now) s (spot_for placed) st.only h,
-      few_line_numbers m x z c.args.tally.now st.counted st.few_lines,
-    )
+    let h : Placement m x z s (Some (spot_for placed)) = subst (λ (o : Option Placed). Placement m x z s (over spot_for o)) low.1 (placement m x c.args.number z s c.args.placer.now _ st.placed st.number t.0 t.1) in record {
+      bytes_bound = c.requires.bytes_bound;
+      small_counts = small_counts_lem m x z c.args.tally.now st.counted st.few;
+      small_given = small_given m x z c.args.tally.now st.counted st.few;
+      few_sets = few_control_numbers m x z c.args.tally.now st.counted (g.G.Guide.lawful c.args.guide.now) s (spot_for placed) st.only h;
+      few_lines = few_line_numbers m x z c.args.tally.now st.counted st.few_lines;
+    }
 
 pub returns : goal.returns
 returns g c = λ z st.
@@ -83,13 +83,13 @@ returns g c = λ z st.
     let k₀ = c.args.delimiters.component in
     let k = c.args.number in
     let s : Segment = segment (c.args.segment.place, c.args.segment.bytes.now) c.args.segment.closed in
-    let placed = c.in-ok-placed.placed in
-    let t = c.in-ok-placed.ensures in
+    let placed = c.in_ok-placed.placed in
+    let t = c.in_ok-placed.ensures in
     let low = lower_passed m x k₀ k z s t.0 placed (t.2 z st.counted) in
-    let next : PlacesNext m c.args.placer.now c.judge-elements.new.placer k (mark_in x s) (Some placed) = subst (PlacesNext m c.args.placer.now c.judge-elements.new.placer k (mark_in x s)) low.1 t.1 in
-    let pass = c.in-ok-check.ensures z st.counted in (
+    let next : PlacesNext m c.args.placer.now c.judge_elements.new.placer k (mark_in x s) (Some placed) = subst (PlacesNext m c.args.placer.now c.judge_elements.new.placer k (mark_in x s)) low.1 t.1 in
+    let pass = c.in_ok-check.ensures z st.counted in (
       upper_passed m x k₀ k z s placed _ low.0 low.2 pass,
-      placement m x k z s c.args.placer.now c.judge-elements.new.placer st.placed st.number (Some placed) next,
-      placed_behind m x k z s c.args.placer.now c.judge-elements.new.placer st.placed st.number placed next,
+      placement m x k z s c.args.placer.now c.judge_elements.new.placer st.placed st.number (Some placed) next,
+      placed_behind m x k z s c.args.placer.now c.judge_elements.new.placer st.placed st.number placed next,
       c.add.ensures z st.number st.counted,
     )

@@ -14,9 +14,9 @@ pub returns-in-Some : goal.returns-in-Some
 returns-in-Some g c =
     let m = g.G.Guide.meaning c.args.guide.now in
     let s : Segment = segment (c.args.segment.place, c.args.segment.bytes.now) c.args.segment.closed in
-    let same : mark c.bytes-in-name.result.now c.bytes-in-first.result.now ≡ mark_in c.args.delimiters.separator s = (λ j. mark (c.bytes-in-name.ensures j) (c.bytes-in-first.ensures j)) in (
+    let same : mark c.bytes_in-name.result.now c.bytes_in-first.result.now ≡ mark_in c.args.delimiters.separator s = (λ j. mark (c.bytes_in-name.ensures j) (c.bytes_in-first.ensures j)) in (
       c.place-placed.result,
       subst (λ (k : Mark). PlacesNext m c.args.placer.now c.place-placed.new.self c.args.number k c.place-placed.result) same c.place-placed.ensures,
-      ap (λ (r : Result (Unit {0}) Fault). and_then r (λ u. or_misplaced c.args.number s.place c.place-placed.result)) c.in-ok-check-segment.ensures
+      ap (λ (r : Result (Unit {0}) Fault). and_then r (λ u. or_misplaced c.args.number s.place c.place-placed.result)) c.in_ok-check_segment.ensures
           ∙ ap (λ (o : Option Placed). or_misplaced c.args.number s.place o) c.in-Some.is,
     )
