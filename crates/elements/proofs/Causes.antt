@@ -1,21 +1,19 @@
 -- The check of a segment's elements gives the first fault of the rule book's causes.
-use Rattle.std.proofs.Common.{◌≡◌, ℕ, zero, suc, ◌+◌, ◌<◌, ◌≤◌, Bool, true, false, cond, not, ◌&&◌, ◌||◌, eqb, ◌≢◌, ◌⊎◌, List, [], ◌∷◌, ◌++◌, length, Some, None, codes, Decides, Option, sym, refl, ap, ◌∙◌, subst, inl, inr, arith, lit≤}
+use Rattle.std.proofs.Common.{◌≡◌, ℕ, suc, ◌+◌, ◌<◌, ◌≤◌, Bool, true, false, not, ◌&&◌, eqb, ◌≢◌, ◌⊎◌, List, [], ◌∷◌, ◌++◌, length, Some, None, codes, Decides, Option, sym, refl, ap, ◌∙◌, subst, inl, inr, arith, lit≤}
 use Rattle.std.proofs.lemmas.Slice.Eq.{bytes_eq-Decides}
 use Rattle.std.proofs.lemmas.Bool.{and_parts, and_from, not-true, not_from_false, eqb-true, eq-eqb, or_cases, or_left, or_right, cases_lt}
 use Rattle.std.proofs.lemmas.Bool.Decides.{Decides-and, Decides-not, Decides-eqb}
 use Rattle.std.specs.List.{AllByRecursion}
-use Rattle.std.specs.Str.{bytes_eq}
 use Rattle.x12.specs.declared.faults.Fault.{Fault}
-use Rattle.x12.specs.Lists.{filled, and_then, each, Item}
+use Rattle.x12.specs.Lists.{filled, each, Item}
 use Rattle.x12.specs.Segments.{Part}
 use Rattle.x12.specs.Elements.{element_of_segment}
 use Rattle.x12.specs.Causes.{fault}
 use Rattle.x12.specs.Rank.{Before}
 use Rattle.x12.proofs.Judged.{Or, Judged, Anything, Any, judged_then, judged_as, item_from}
 use Rattle.value.specs.Types.{good_length, good_type}
-use Rattle.value.specs.Means.{HasType}
 use Rattle.value.proofs.Meaning.{types_mean}
-use Rattle.grammar.specs.Marks.{Admit, OneOf}
+use Rattle.grammar.specs.Marks.{OneOf}
 use Rattle.guide.specs.declared.rules.Need.TheVariants.{Must, Unused}
 use Rattle.guide.specs.declared.rules.Kind.TheVariants.{Wrong}
 use Rattle.guide.specs.Meaning.{ElementRule, Meaning, Standing}
@@ -23,9 +21,9 @@ use Rattle.guide.specs.Asked.{row_at, any_pair, test, admits, and_then as and_th
 use Rattle.placing.specs.Placed.{PlacedSegment, has_row, any_of, last_of, since_last}
 use Rattle.placing.proofs.Fitting.{admits_decides}
 use Rattle.elements.specs.Rules.{value, rule_at, limit_at, asks_for}
-use Rattle.elements.specs.Tests.{is_must, is_unused, is_wrong, lacks, exceeds, judges, is_wrong_length, is_wrong_type, is_wrong_code, is_in_wrong_pair, element_tests, is_named, needed_row, is_row_lacking}
+use Rattle.elements.specs.Tests.{is_must, is_unused, is_wrong, lacks, exceeds, judges, is_wrong_code, is_in_wrong_pair, element_tests, is_named, needed_row, is_row_lacking}
 use Rattle.elements.specs.Checks.{first_of, present, absent, element_check, elements_check}
-use Rattle.elements.specs.Fails.{HasRule, IsUnused, IsJudged, HasPair, ElementFails, empty_must, filled_unused, wrong_length, wrong_type, wrong_code, wrong_pair, broken_pair, missing_row, ElementMet}
+use Rattle.elements.specs.Fails.{ElementFails, empty_must, filled_unused, wrong_length, wrong_type, wrong_code, wrong_pair, broken_pair, missing_row, ElementMet}
 use Rattle.elements.proofs.Columns.{Hits, LiesAt, first_judged, hits_lie, element_rising, HitsPart, part_lies, parts_judged}
 use Rattle.elements.proofs.Bounds.{rule_within, pairs_within}
 use Rattle.elements.proofs.Parts.{name_place, present_is, is_present, filled_present, absent_is, is_absent}

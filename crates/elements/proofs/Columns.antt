@@ -1,5 +1,5 @@
 -- Tests of one element in the order of their numbers: the first that holds is the first fault.
-use Rattle.std.proofs.Common.{◌≡◌, ℕ, ◌<◌, Bool, true, false, cond, ◌&&◌, eqb, ltb, ◌⊎◌, List, [], ◌∷◌, sym, refl, ap, ◌∙◌, subst₂, inl, inr}
+use Rattle.std.proofs.Common.{◌≡◌, ℕ, ◌<◌, Bool, true, ◌&&◌, eqb, ltb, ◌⊎◌, List, [], ◌∷◌, sym, refl, ◌∙◌, subst₂, inl, inr}
 use Rattle.std.proofs.lemmas.Bool.{and_parts, eqb-true, ltb-true}
 use Rattle.x12.specs.declared.faults.Fault.{Fault}
 use Rattle.x12.specs.Segments.{Part}
@@ -7,7 +7,7 @@ use Rattle.x12.specs.Causes.{layer_of, fault}
 use Rattle.x12.specs.Lists.{each}
 use Rattle.x12.specs.Rank.{phase, Before}
 use Rattle.x12.proofs.Rank.{moved}
-use Rattle.x12.proofs.Judged.{Or, Judged, Anything, Any, judged_test, judged_none, each_judged}
+use Rattle.x12.proofs.Judged.{Judged, Anything, Any, judged_test, each_judged}
 use Rattle.elements.specs.Checks.{first_of}
 
 -- some of the tests holds, and the fault is that of its number

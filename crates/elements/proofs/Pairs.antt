@@ -1,13 +1,12 @@
 -- Pair rules, asked one by one.
-use Rattle.std.proofs.Common.{◌≡◌, ℕ, ◌+◌, ◌<◌, ◌≤◌, Bool, true, false, ◌&&◌, eqb, ◌⊎◌, List, [], ◌∷◌, Some, Decides, Option, sym, refl, ap, ◌∙◌, subst, inl, inr, arith}
+use Rattle.std.proofs.Common.{◌≡◌, ℕ, ◌+◌, ◌<◌, true, false, ◌&&◌, eqb, Some, Decides, sym, refl, ap, ◌∙◌, inl, inr, arith}
 use Rattle.std.proofs.lemmas.Bool.{and_parts, and_from, eqb-true, eq-eqb, cases_Bool, both_ways}
 use Rattle.x12.specs.Lists.{filled}
 use Rattle.x12.specs.Segments.{Segment}
 use Rattle.x12.specs.Elements.{element_of_segment}
 use Rattle.grammar.specs.Marks.{OneOf}
-use Rattle.grammar.specs.Derivations.{Spot}
 use Rattle.guide.specs.Meaning.{Meaning, Standing}
-use Rattle.guide.specs.Asked.{row_at, test, any_pair, pairs_in, paired_to}
+use Rattle.guide.specs.Asked.{row_at, any_pair, pairs_in, paired_to}
 use Rattle.elements.specs.Rules.{limit_at, asks_for}
 use Rattle.elements.proofs.Bounds.{pairs_within}
 use Rattle.elements.proofs.Words.{pair_decides, test_decides}

@@ -1,5 +1,5 @@
 -- The rules that hold for the elements of a row, of the envelope or of the guide.
-use Rattle.std.specs.Prelude.{ℕ, max, Bool, true, false, cond, ◌&&◌, List, Some, None, Option, ◌==◌, nat_le}
+use Rattle.std.specs.Prelude.{ℕ, max, Bool, cond, ◌&&◌, List, Some, None, Option, ◌==◌, nat_le}
 use Rattle.x12.specs.Lists.{filled}
 use Rattle.x12.specs.Segments.{Segment}
 use Rattle.x12.specs.Elements.{element_of_segment}

@@ -15,7 +15,6 @@ use Rattle.grammar.specs.Derivations.{Spot}
 use Rattle.grammar.specs.Interchange.{Derivation, Begins}
 use Rattle.guide.specs.Meaning.{Meaning}
 use Rattle.guide.specs.Asked.{rows_of, label_of}
-use Rattle.placing.specs.Placing.{EveryDerivationGives, FitsNowhere}
 use Rattle.placing.specs.Structure.{mark_in, marks_in, StructureMet}
 use Rattle.placing.specs.Placed.{PlacedSegment, segments_in, spots_in, OnlySo}
 use Rattle.placing.proofs.Joined.{misfit_rank}

@@ -1,5 +1,5 @@
 -- The answers of the layers one after the other, and the check of all four.
-use Rattle.std.proofs.Common.{◌≡◌, ℕ, zero, suc, ◌+◌, ◌*◌, ◌<◌, ◌≤◌, Bool, true, false, cond, leb, ◌⊎◌, List, [], ◌∷◌, ◌++◌, length, IfSome, Some, None, Ok, Err, Option, Result, sym, refl, ap, ◌∙◌, subst, inl, inr, arith}
+use Rattle.std.proofs.Common.{◌≡◌, ℕ, suc, ◌<◌, ◌≤◌, Bool, true, false, cond, leb, List, [], ◌∷◌, ◌++◌, length, IfSome, Some, None, Ok, Err, Option, Result, sym, refl, ap, ◌∙◌, subst, arith}
 use Rattle.x12.specs.declared.faults.Fault.{Fault}
 use Rattle.x12.specs.Lists.{and_then}
 use Rattle.x12.specs.Segments.{Segment}
@@ -14,7 +14,7 @@ use Rattle.placing.specs.declared.placer.Placer.{Placer}
 use Rattle.placing.specs.Stages.{spot_for}
 use Rattle.placing.specs.Placing.{HasPlaced, PlacesNext}
 use Rattle.placing.specs.Structure.{mark_in, marks_in}
-use Rattle.placing.specs.Placed.{PlacedSegment, segments_in, OnlySo, sum_of, count_of, since_last, has_row}
+use Rattle.placing.specs.Placed.{PlacedSegment, segments_in, OnlySo, sum_of, has_row}
 use Rattle.placing.proofs.FewSets.{few_sets}
 use Rattle.placing.proofs.Placements.{only_more, placed_more, segments_length, marks_length}
 use Rattle.elements.specs.Rules.{value}
@@ -24,13 +24,13 @@ use Rattle.seen.specs.ControlNumbers.{numbers_of as control_numbers_of}
 use Rattle.seen.specs.LineNumbers.{numbers_of as line_numbers_of}
 use Rattle.totals.specs.declared.open_line.OpenLine.{OpenLine}
 use Rattle.totals.specs.declared.tally.Tally.{Tally}
-use Rattle.totals.specs.Words.{quantity, set_of, group_of, is_line, lines_in, acknowledged, values_of, Line, last_line_from, last_line}
+use Rattle.totals.specs.Words.{quantity, set_of, group_of, is_line, lines_in, acknowledged, Line, last_line}
 use Rattle.totals.specs.Tests.{totals_check, every_of}
-use Rattle.totals.specs.Tally.{open_in, line_opened, TallyIs}
+use Rattle.totals.specs.Tally.{open_in, TallyIs}
 use Rattle.totals.proofs.Pushes.{count_since, values_length}
 use Rattle.totals.proofs.More.{sum_small, acknowledged_small, line_short}
 use Rattle.reading.specs.Judge.{spot_check}
-use Rattle.reading.specs.Turns.{Placement, or_misplaced, place_check, check_by, Stands}
+use Rattle.reading.specs.Turns.{Placement, or_misplaced, check_by}
 
 never : {A : Type 0} (a : A) (f : Fault) → Ok a ≡ Err f → ⊥
 never a f e = let z : ◌≡◌ {A = ℕ} 0 1 = cc in omega arith

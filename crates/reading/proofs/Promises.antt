@@ -1,5 +1,5 @@
 -- From the judgment of the four layers to what reading promises.
-use Rattle.std.proofs.Common.{◌≡◌, ℕ, suc, ◌<◌, ◌≤◌, ◌⊎◌, List, length, Ok, Err, Result, sym, refl, ap, ◌∙◌, subst, inl, inr, arith}
+use Rattle.std.proofs.Common.{◌≡◌, ℕ, ◌<◌, ◌≤◌, ◌⊎◌, List, length, Ok, Err, Result, sym, refl, ap, ◌∙◌, subst, inl, inr, arith}
 use Rattle.x12.specs.declared.faults.Fault.{Fault}
 use Rattle.x12.specs.Header.{separator_of}
 use Rattle.x12.specs.Segments.{segments_of}
@@ -8,7 +8,6 @@ use Rattle.x12.specs.Rank.{phase, key, Before, First}
 use Rattle.x12.specs.Met.{Met as BytesMet}
 use Rattle.x12.proofs.Rank.{lex_refl, same_rank}
 use Rattle.x12.proofs.SegmentFaults.{met_rank}
-use Rattle.grammar.specs.Derivations.{Spot}
 use Rattle.grammar.specs.Theorems.{OneDerivation}
 use Rattle.guide.specs.Meaning.{Meaning}
 use Rattle.guide.specs.Asked.{rows_of, label_of}
@@ -17,7 +16,6 @@ use Rattle.placing.specs.Placed.{PlacedSegment, spots_in, DerivedSo}
 use Rattle.results.specs.declared.rows.SegmentRow.{SegmentRow}
 use Rattle.results.specs.declared.rows.LoopRow.{LoopRow}
 use Rattle.results.specs.Rows.{loops_in, Filled}
-use Rattle.verdict.specs.declared.verdicts.Totals.{Totals}
 use Rattle.totals.specs.declared.faults.TotalsFault.{TotalsFault}
 use Rattle.totals.specs.Fails.{cause_of_totals}
 use Rattle.reading.specs.declared.faults.ReadingFault.{ReadingFault}

@@ -1,39 +1,36 @@
 -- A judgment under way: what holds between two segments.
-use Rattle.std.proofs.Common.{◌≡◌, ℕ, zero, suc, ◌+◌, ◌*◌, ◌<◌, ◌≤◌, Bool, true, false, cond, eqb, ◌⊎◌, List, [], ◌∷◌, ◌++◌, length, Some, None, Ok, Err, codes, Option, Result, sym, refl, ap, ◌∙◌, subst, inl, inr, append_assoc, append-nil, arith, length-append}
+use Rattle.std.proofs.Common.{◌≡◌, ℕ, suc, ◌+◌, ◌*◌, ◌<◌, ◌≤◌, Bool, true, false, cond, eqb, ◌⊎◌, List, [], ◌∷◌, ◌++◌, length, Some, Ok, Err, codes, Option, sym, refl, ap, ◌∙◌, subst, inl, inr, append_assoc, append-nil, arith, length-append}
 use Rattle.std.proofs.lemmas.Slice.Eq.{bytes_eq-Decides}
 use Rattle.std.proofs.lemmas.Bool.{cases_Bool, cases_lt, cond-true, cond-false}
 use Rattle.x12.specs.declared.faults.Fault.{Fault}
-use Rattle.x12.specs.Header.{separator_of, component_of, terminator_of, sized, headed, delimited}
+use Rattle.x12.specs.Header.{separator_of, component_of, terminator_of}
 use Rattle.x12.specs.Segments.{Part, Segment, parts_of, push, segments_of, segments_from}
-use Rattle.x12.specs.Elements.{end_of, part_at, element_of_segment}
+use Rattle.x12.specs.Elements.{end_of, part_at}
 use Rattle.x12.specs.Causes.{fault}
 use Rattle.x12.specs.Checks.{header_check}
 use Rattle.x12.specs.Rank.{First}
 use Rattle.x12.proofs.Follows.{none_at}
 use Rattle.x12.proofs.Headers.{check_sound}
-use Rattle.grammar.specs.Marks.{Mark}
 use Rattle.grammar.specs.Derivations.{Spot}
 use Rattle.grammar.specs.Theorems.{OneDerivation, OnlyBegun}
 use Rattle.guide.specs.Meaning.{Meaning}
 use Rattle.guide.specs.Asked.{rows_of, label_of}
-use Rattle.guide.specs.Law.{Lawful}
 use Rattle.placing.specs.declared.placer.Placed.{Placed}
 use Rattle.placing.specs.declared.placer.Placer.{Placer}
 use Rattle.placing.specs.Stages.{spot_for}
 use Rattle.placing.specs.Placing.{HasPlaced}
 use Rattle.placing.specs.Structure.{mark_in, marks_in}
-use Rattle.placing.specs.Placed.{PlacedSegment, segments_in, OnlySo, DerivedSo, count_of, has_row}
-use Rattle.placing.proofs.Placements.{only_none, segments_more, marks_more, segments_length, derived_whole}
-use Rattle.results.specs.Rows.{loops_in, opens_at}
+use Rattle.placing.specs.Placed.{PlacedSegment, segments_in, OnlySo}
+use Rattle.placing.proofs.Placements.{only_none, segments_more, marks_more, derived_whole}
+use Rattle.results.specs.Rows.{loops_in}
 use Rattle.results.proofs.Counting.{loops_in_push}
 use Rattle.elements.specs.Rules.{value}
 use Rattle.totals.specs.declared.tally.Tally.{Tally}
-use Rattle.totals.specs.Words.{is_line, lines_in, sum_in}
+use Rattle.totals.specs.Words.{is_line, lines_in}
 use Rattle.totals.specs.Tally.{TallyIs}
 use Rattle.totals.proofs.Pushes.{count_push}
 use Rattle.reading.specs.declared.judging.Judgment.{Judgment}
-use Rattle.reading.specs.Met.{Met, Regular}
-use Rattle.reading.specs.Judge.{full_check}
+use Rattle.reading.specs.Met.{Met}
 use Rattle.reading.specs.Turns.{Placement, check_by, Stands}
 use Rattle.reading.specs.Judgment.{JudgedSo}
 use Rattle.reading.proofs.Quiets.{Quiet, quiet_start, turn_refused, turn_passed, ends_regular, ends_refused}

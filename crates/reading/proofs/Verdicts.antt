@@ -1,5 +1,5 @@
 -- The verdict of reading as the judgment computes it: it is a verdict, and the only one.
-use Rattle.std.proofs.Common.{◌≡◌, ℕ, ◌<◌, ◌≤◌, Bool, true, false, cond, ◌&&◌, leb, ◌⊎◌, List, length, Ok, Err, Result, sym, refl, ap, ◌∙◌, inl, inr, arith}
+use Rattle.std.proofs.Common.{◌≡◌, ℕ, ◌≤◌, Bool, true, false, cond, ◌&&◌, leb, ◌⊎◌, List, length, Ok, Err, Result, sym, refl, ap, ◌∙◌, inl, inr, arith}
 use Rattle.std.proofs.lemmas.Bool.{leb-true, leb-false}
 use Rattle.x12.specs.declared.faults.Fault.{Fault}
 use Rattle.x12.specs.Causes.{fault}
@@ -7,7 +7,7 @@ use Rattle.x12.specs.Rank.{First}
 use Rattle.x12.proofs.Judged.{Judged as Judges}
 use Rattle.guide.specs.Meaning.{Meaning}
 use Rattle.guide.specs.Law.{Lawful}
-use Rattle.placing.specs.Placed.{PlacedSegment, DerivedSo}
+use Rattle.placing.specs.Placed.{PlacedSegment}
 use Rattle.results.specs.Rows.{loops_in}
 use Rattle.verdict.specs.declared.verdicts.Totals.{Totals}
 use Rattle.verdict.specs.declared.verdicts.Verdict.{Verdict}

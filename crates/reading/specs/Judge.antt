@@ -1,5 +1,5 @@
 -- The layers 1 to 4 as a check that computes: segment by segment, each judged by the segments before it.
-use Rattle.std.specs.Prelude.{ℕ, suc, Bool, cond, List, [], ◌∷◌, ◌++◌, length, Some, None, Ok, Err, Option, Result}
+use Rattle.std.specs.Prelude.{ℕ, suc, cond, List, [], ◌∷◌, ◌++◌, length, Some, None, Ok, Err, Option, Result}
 use Rattle.x12.specs.declared.faults.Fault.{Fault}
 use Rattle.x12.specs.Header.{separator_of, component_of}
 use Rattle.x12.specs.Lists.{and_then}

@@ -1,6 +1,6 @@
 -- What reading promises: accepted exactly where the interchange is regular and the rows are enough, with the one derivation in the tables; else
 -- the first fault, and both tables as they were.
-use Rattle.std.specs.Prelude.{◌≡◌, ℕ, suc, ◌<◌, ◌≤◌, ◌⊎◌, List, [], ◌∷◌, ◌++◌, length, Ok, Err, Result}
+use Rattle.std.specs.Prelude.{◌≡◌, ℕ, suc, ◌<◌, ◌≤◌, ◌⊎◌, List, ◌∷◌, ◌++◌, length, Ok, Err, Result}
 use Rattle.x12.specs.declared.faults.Fault.{Fault}
 use Rattle.x12.specs.Header.{separator_of}
 use Rattle.x12.specs.Segments.{Segment, segments_of}
@@ -12,7 +12,7 @@ use Rattle.guide.specs.Meaning.{Meaning}
 use Rattle.guide.specs.Asked.{rows_of, label_of}
 use Rattle.placing.specs.Placing.{FitsNowhere}
 use Rattle.placing.specs.Structure.{mark_in, marks_in}
-use Rattle.placing.specs.Placed.{PlacedSegment, segments_in, spots_in, DerivedSo, count_of, has_row}
+use Rattle.placing.specs.Placed.{PlacedSegment, spots_in, DerivedSo, count_of, has_row}
 use Rattle.results.specs.declared.rows.SegmentRow.{SegmentRow}
 use Rattle.results.specs.declared.rows.LoopRow.{LoopRow}
 use Rattle.results.specs.Rows.{loops_in, Filled}

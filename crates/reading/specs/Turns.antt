@@ -5,7 +5,6 @@ use Rattle.x12.specs.Lists.{and_then}
 use Rattle.x12.specs.Segments.{Segment}
 use Rattle.x12.specs.Causes.{fault}
 use Rattle.x12.specs.Checks.{segment_check}
-use Rattle.grammar.specs.Marks.{Mark}
 use Rattle.grammar.specs.Derivations.{Spot}
 use Rattle.grammar.specs.Interchange.{Begins}
 use Rattle.guide.specs.Meaning.{Meaning}

@@ -1,23 +1,22 @@
 -- One segment more: what a tally then keeps.
-use Rattle.std.proofs.Common.{◌≡◌, ℕ, zero, suc, ◌+◌, ◌*◌, ◌<◌, ◌≤◌, Bool, true, false, cond, not, ◌&&◌, ◌||◌, eqb, ◌⊎◌, List, [], ◌∷◌, ◌++◌, length, get_or, set, replicate, Some, None, codes, Option, sym, refl, ap, ◌∙◌, subst, inl, inr, arith, length-set, get_or-set_other, get_or-set_same}
-use Rattle.std.proofs.lemmas.Bool.{cases_Bool, cases_eq, eq-eqb, ne_eqb, cond-true, cond-false}
+use Rattle.std.proofs.Common.{◌≡◌, ℕ, suc, ◌+◌, ◌*◌, ◌<◌, ◌≤◌, Bool, true, false, cond, ◌||◌, eqb, ◌⊎◌, List, [], ◌∷◌, ◌++◌, length, get_or, set, replicate, Some, None, codes, Option, sym, refl, ap, ◌∙◌, subst, inl, inr, arith, get_or-set_other, get_or-set_same}
+use Rattle.std.proofs.lemmas.Bool.{cases_eq, eq-eqb, ne_eqb}
 use Rattle.guide.specs.Meaning.{Meaning}
 use Rattle.guide.specs.Asked.{and_then}
-use Rattle.placing.specs.Placed.{PlacedSegment, count_of, sum_of, any_of, or_else, last_of, since_last, has_row}
+use Rattle.placing.specs.Placed.{PlacedSegment, sum_of, any_of, or_else, last_of, has_row}
 use Rattle.elements.specs.Rules.{value}
-use Rattle.elements.specs.Tests.{is_named, needed_row}
+use Rattle.elements.specs.Tests.{is_named}
 use Rattle.seen.specs.ControlNumbers.{numbers_of as control_numbers_of}
 use Rattle.seen.specs.LineNumbers.{numbers_of as line_numbers_of}
 use Rattle.totals.specs.declared.counts.Counts.{Counts}
 use Rattle.totals.specs.declared.open_line.OpenLine.{OpenLine}
 use Rattle.totals.specs.declared.tally.Tally.{Tally}
-use Rattle.totals.specs.Words.{quantity, set_of, group_of, is_line, lines_in, ordered, sum_in, acknowledged, last_value, value_in, values_of, Line, last_line_from, last_line}
+use Rattle.totals.specs.Words.{quantity, set_of, group_of, is_line, ordered, acknowledged, last_value, value_in, Line, last_line_from}
 use Rattle.totals.specs.Steps.{counts_behind, line_after}
 use Rattle.totals.specs.Roomy.{SmallCounts}
-use Rattle.totals.specs.Tests.{every_of}
-use Rattle.totals.specs.Tally.{open_in, line_opened, TallyIs}
+use Rattle.totals.specs.Tally.{TallyIs}
 use Rattle.totals.proofs.Amounts.{quantity_small, none_used}
-use Rattle.totals.proofs.Pushes.{any_push, sum_push, count_push, last_push, since_sum, since_count, since_length, since_any, since_values, since_short, count_few, count_since, values_length}
+use Rattle.totals.proofs.Pushes.{sum_push, count_push, last_push, since_sum, since_count, since_length, since_any, since_values, since_short, count_few}
 use Rattle.totals.proofs.Ties.{open_push}
 
 -- what a step of the tally is to do with the segment p, which has the number k

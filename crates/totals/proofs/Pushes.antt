@@ -1,5 +1,5 @@
 -- One more at the end of a list: how counts, sums, the last of a sort and what follows it go on.
-use Rattle.std.proofs.Common.{◌≡◌, ℕ, zero, suc, ◌+◌, ◌<◌, ◌≤◌, Bool, true, false, cond, ◌&&◌, ◌||◌, ◌⊎◌, List, [], ◌∷◌, ◌++◌, length, Some, None, Option, sym, refl, ap, ◌∙◌, inl, inr, append_assoc, add-zero, add_assoc, zero-add, arith, length-append}
+use Rattle.std.proofs.Common.{◌≡◌, ℕ, suc, ◌+◌, ◌≤◌, Bool, true, false, cond, ◌&&◌, ◌||◌, List, [], ◌∷◌, ◌++◌, length, Some, None, Option, refl, ap, ◌∙◌, arith, length-append}
 use Rattle.placing.specs.Placed.{PlacedSegment, count_of, sum_of, any_of, or_else, last_of, since_last}
 use Rattle.elements.specs.Rules.{value}
 use Rattle.totals.specs.Words.{values_of, is_line, Line, last_line_from}

@@ -1,24 +1,23 @@
 -- What a tally keeps is what the definitions ask for.
-use Rattle.std.proofs.Common.{◌≡◌, ℕ, zero, suc, ◌+◌, ◌<◌, ◌≤◌, Bool, true, false, cond, not, ◌&&◌, ◌||◌, eqb, ltb, leb, ◌⊎◌, List, [], ◌∷◌, ◌++◌, length, get_or, Some, None, Ok, Err, codes, Option, Result, sym, refl, ap, ◌∙◌, subst, inl, inr, arith}
+use Rattle.std.proofs.Common.{◌≡◌, ℕ, suc, ◌+◌, ◌<◌, Bool, true, false, cond, not, ◌&&◌, ◌||◌, eqb, ltb, leb, List, [], ◌∷◌, ◌++◌, length, get_or, Some, None, Ok, Err, codes, Option, Result, sym, refl, ap, ◌∙◌, arith}
 use Rattle.std.specs.Str.{bytes_eq}
-use Rattle.std.proofs.lemmas.Bool.{ltb-true, true≢false}
+use Rattle.std.proofs.lemmas.Bool.{ltb-true}
 use Rattle.x12.specs.declared.faults.Fault.{Fault}
 use Rattle.x12.specs.Lists.{filled, and_then}
 use Rattle.x12.specs.Elements.{element_of_segment}
 use Rattle.guide.specs.Meaning.{Meaning}
 use Rattle.guide.specs.Asked.{test, is_among}
-use Rattle.placing.specs.Placed.{PlacedSegment, count_of, sum_of, any_of, last_of, since_last, has_row}
+use Rattle.placing.specs.Placed.{PlacedSegment, sum_of, any_of, has_row}
 use Rattle.elements.specs.Rules.{value}
-use Rattle.elements.specs.Tests.{is_named, needed_row, is_row_lacking}
+use Rattle.elements.specs.Tests.{is_named, is_row_lacking}
 use Rattle.elements.specs.Checks.{first_of}
 use Rattle.elements.proofs.Parts.{name_place}
 use Rattle.seen.specs.Came.{came_before}
 use Rattle.seen.specs.ControlNumbers.{numbers_of as control_numbers_of}
 use Rattle.seen.specs.LineNumbers.{numbers_of as line_numbers_of}
-use Rattle.totals.specs.declared.counts.Counts.{Counts}
 use Rattle.totals.specs.declared.open_line.OpenLine.{OpenLine}
 use Rattle.totals.specs.declared.tally.Tally.{Tally}
-use Rattle.totals.specs.Words.{quantity, set_of, group_of, is_line, lines_in, sum_in, acknowledged, last_value, value_in, values_of, Line, last_line}
+use Rattle.totals.specs.Words.{quantity, set_of, group_of, is_line, acknowledged, values_of, Line, last_line}
 use Rattle.totals.specs.Tests.{counted, summed, repeated, taken, every_of, ends_before, is_unlike, ends_unlike, total_tests, totals_check}
 use Rattle.totals.specs.Steps.{counted_by, sum_by_name, differs, kept_open, line_after, is_unlike_close}
 use Rattle.totals.specs.Keeps.{repeated_by, unlike_control, lacks_by, totals_by}

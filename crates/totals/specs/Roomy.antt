@@ -1,5 +1,5 @@
 -- What bounds the numbers of a tally: an interchange has at most 65,536 bytes.
-use Rattle.std.specs.Prelude.{ℕ, ◌<◌, ◌≤◌}
+use Rattle.std.specs.Prelude.{◌<◌, ◌≤◌}
 use Rattle.totals.specs.declared.counts.Counts.{Counts}
 
 -- each count is at most the number of segments, and each sum at most ten to the tenth for each

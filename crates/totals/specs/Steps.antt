@@ -1,7 +1,6 @@
 -- How the totals go on by one segment, as the code keeps them.
 use Rattle.std.specs.Prelude.{ℕ, suc, ◌+◌, Bool, cond, not, ◌&&◌, List, Some, None, codes, Option, ◌==◌, nat_le, nat_lt}
 use Rattle.std.specs.Str.{bytes_eq}
-use Rattle.x12.specs.Lists.{filled}
 use Rattle.guide.specs.Asked.{test}
 use Rattle.totals.specs.declared.counts.Counts.{Counts}
 use Rattle.totals.specs.declared.open_line.OpenLine.{OpenLine}

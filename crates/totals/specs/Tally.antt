@@ -1,5 +1,5 @@
 -- What a tally keeps: the totals of the segments so far.
-use Rattle.std.specs.Prelude.{◌≡◌, ℕ, ◌<◌, ◌≤◌, Bool, false, cond, List, length, Some, None, Option, nat_le, slice_index_or}
+use Rattle.std.specs.Prelude.{◌≡◌, ℕ, ◌<◌, false, cond, List, length, Some, None, Option, nat_le, slice_index_or}
 use Rattle.guide.specs.Meaning.{Meaning}
 use Rattle.placing.specs.Placed.{PlacedSegment, count_of, sum_of, any_of, has_row}
 use Rattle.elements.specs.Rules.{value}

@@ -1,4 +1,4 @@
-use Rattle.std.proofs.Common.{◌≡◌, ℕ, suc, ◌+◌, ◌-◌, [], length, replicate}
+use Rattle.std.proofs.Common.{◌≡◌, suc, ◌+◌, ◌-◌, [], length, replicate}
 use Rattle.x12.specs.Lists.{each}
 use Rattle.x12.specs.Segments.{Part, segment}
 use Rattle.elements.specs.Checks.{element_check}

@@ -1,4 +1,4 @@
-use Rattle.std.proofs.Common.{◌≡◌, ℕ, Bool, cond, Ok, Err, sym, ap, ◌∙◌, arith}
+use Rattle.std.proofs.Common.{Bool, cond, Ok, Err, sym, ap, ◌∙◌, arith}
 use Rattle.x12.specs.Segments.{segment}
 use Rattle.x12.specs.Causes.{fault}
 use Rattle.elements.specs.Checks.{first_of}

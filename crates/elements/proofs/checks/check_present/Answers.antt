@@ -1,7 +1,7 @@
-use Rattle.std.proofs.Common.{◌≡◌, ℕ, suc, ◌+◌, ◌<◌, ◌≤◌, List, [], ◌∷◌, length, sym, ap, ◌∙◌, arith}
+use Rattle.std.proofs.Common.{◌≡◌, length, sym, ap, ◌∙◌, arith}
 use Rattle.std.proofs.lemmas.Result.{err_from_is_err_and}
 use Rattle.x12.specs.Lists.{each}
-use Rattle.x12.specs.Segments.{Part, Segment, segment}
+use Rattle.x12.specs.Segments.{Segment, segment}
 use Rattle.x12.proofs.Turns.{each_stop, each_on}
 use Rattle.elements.specs.Checks.{present, element_check}
 use Rattle.elements.proofs.Walks.{rest_parts, rest_first, rest_next, rest_none}

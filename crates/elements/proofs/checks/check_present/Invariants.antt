@@ -1,4 +1,4 @@
-use Rattle.std.proofs.Common.{◌≡◌, ℕ, suc, ◌+◌, ◌-◌, ◌≤◌, length}
+use Rattle.std.proofs.Common.{◌≡◌, suc, ◌+◌, ◌-◌, ◌≤◌, length}
 use Rattle.x12.specs.Lists.{each}
 use Rattle.x12.specs.Segments.{segment}
 use Rattle.elements.specs.Checks.{present, element_check}

@@ -1,7 +1,7 @@
-use Rattle.std.proofs.Common.{◌≡◌, ℕ, ◌<◌, Bool, true, false, ◌&&◌, sym, ap, ◌∙◌, arith, below_none, below_more}
+use Rattle.std.proofs.Common.{sym, ap, ◌∙◌, arith, below_none, below_more}
 use Rattle.std.proofs.lemmas.Bool.{and_parts, both_ways}
 use Rattle.x12.specs.Lists.{filled}
-use Rattle.x12.specs.Segments.{Segment, segment}
+use Rattle.x12.specs.Segments.{segment}
 use Rattle.x12.specs.Elements.{element_of_segment}
 use Rattle.guide.specs.Asked.{pairs_in}
 use Rattle.elements.proofs.Pairs.{asked, not_paired, none_asks}

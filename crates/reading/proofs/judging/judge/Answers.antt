@@ -1,15 +1,13 @@
-use Rattle.std.proofs.Common.{◌≡◌, ℕ, ◌+◌, ◌*◌, ◌<◌, ◌≤◌, Bool, cond, eqb, List, [], ◌∷◌, length, Ok, Err, Result, sym, refl, ap, ◌∙◌, subst, add-zero, arith, MatchResult}
+use Rattle.std.proofs.Common.{◌≡◌, ℕ, ◌+◌, cond, eqb, List, [], ◌∷◌, length, Ok, Err, Result, sym, refl, ap, ◌∙◌, subst, add-zero, arith, MatchResult}
 use Rattle.std.proofs.lemmas.Result.{err_from_is_err_and}
 use Rattle.std.proofs.lemmas.Bool.{eq-eqb, ne_eqb, cond-true, cond-false}
 use Rattle.x12.specs.Header.{separator_of, component_of, terminator_of}
 use Rattle.x12.specs.Segments.{Segment, segment, segments_from}
-use Rattle.x12.specs.Checks.{header_check}
 use Rattle.x12.specs.Rank.{First}
 use Rattle.guide.specs.Meaning.{Meaning}
 use Rattle.placing.specs.declared.placer.Placed.{Placed}
 use Rattle.placing.specs.declared.placer.Placer.{Placer}
 use Rattle.placing.specs.Placed.{PlacedSegment}
-use Rattle.results.specs.Rows.{loops_in}
 use Rattle.results.proofs.Counting.{loops_within}
 use Rattle.totals.specs.declared.faults.TotalsFault.{TotalsFault}
 use Rattle.totals.specs.declared.tally.Tally.{Tally}
@@ -18,7 +16,7 @@ use Rattle.reading.specs.declared.judging.Judgment.{Judgment}
 use Rattle.reading.specs.Met.{Met}
 use Rattle.reading.specs.Judgment.{JudgedSo}
 use Rattle.reading.specs.Turns.{Stands, TurnIs}
-use Rattle.reading.proofs.Underway.{Underway, few_bytes, underway_start, stands, refused, passed, begun, whole}
+use Rattle.reading.proofs.Underway.{few_bytes, underway_start, stands, refused, passed, begun, whole}
 use Rattle.reading.proofs.judging.judge.Goals as goal
 use Rattle.reading.proofs.judging.judge.Goals.{then-placed-count, else-placed-count}
 

@@ -1,4 +1,4 @@
-use Rattle.std.proofs.Common.{ℕ, ◌+◌, ◌-◌, List, length}
+use Rattle.std.proofs.Common.{◌+◌, ◌-◌, List, length}
 use Rattle.placing.specs.Placed.{PlacedSegment}
 use Rattle.reading.proofs.Underway.{Underway}
 use Rattle.reading.proofs.judging.judge.Given as goal

@@ -1,15 +1,12 @@
-use Rattle.std.proofs.Common.{◌≡◌, ℕ, ◌<◌, ◌≤◌, ◌⊎◌, List, length, Ok, Err, Result, sym, refl, ap, ◌∙◌, subst, inl, inr, arith}
+use Rattle.std.proofs.Common.{◌≡◌, ℕ, ◌≤◌, List, length, Ok, Err, Result, sym, ap, ◌∙◌, subst, inl, inr, arith}
 use Rattle.std.proofs.lemmas.Result.{err_from_is_err_and}
 use Rattle.x12.specs.Rank.{First}
 use Rattle.guide.specs.Meaning.{Meaning}
-use Rattle.results.specs.declared.rows.SegmentRow.{SegmentRow}
-use Rattle.results.specs.declared.rows.LoopRow.{LoopRow}
-use Rattle.results.specs.Rows.{loops_in, Fitting}
+use Rattle.results.specs.Rows.{loops_in}
 use Rattle.verdict.specs.declared.verdicts.Totals.{Totals}
 use Rattle.totals.specs.declared.faults.TotalsFault.{TotalsFault}
 use Rattle.totals.specs.Fails.{cause_of_totals}
 use Rattle.reading.specs.declared.faults.ReadingFault.{ReadingFault}
-use Rattle.reading.specs.declared.faults.ReadingFault.TheVariants.{Judged}
 use Rattle.reading.specs.declared.judging.Judgment.{Judgment}
 use Rattle.reading.specs.Met.{Met}
 use Rattle.reading.specs.Judgment.{JudgedSo}

@@ -11,7 +11,7 @@ use Rattle.elements.specs.declared.faults.ElementFault.{ElementFault}
 use Rattle.elements.specs.Tests.{is_row_lacking}
 use Rattle.elements.specs.Checks.{elements_check}
 use Rattle.elements.specs.Fails.{cause_of_element}
-use Rattle.reading.specs.Turns.{AnswersWith, place_check}
+use Rattle.reading.specs.Turns.{AnswersWith}
 use Rattle.reading.proofs.turns.judge_elements.Goals as goal
 
 -- the elements behind the place

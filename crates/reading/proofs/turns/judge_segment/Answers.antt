@@ -1,6 +1,5 @@
-use Rattle.std.proofs.Common.{◌≡◌, ℕ, List, Some, None, Ok, Err, Option, Result, sym, refl, ap, ◌∙◌, subst}
+use Rattle.std.proofs.Common.{◌≡◌, ℕ, List, Some, Err, Option, Result, sym, ap, ◌∙◌, subst}
 use Rattle.std.proofs.lemmas.Result.{err_from_is_err_and}
-use Rattle.x12.specs.declared.faults.Fault.{Fault}
 use Rattle.x12.specs.Segments.{Segment, segment}
 use Rattle.grammar.specs.Derivations.{Spot}
 use Rattle.guide.specs.Asked.{over}
@@ -15,7 +14,7 @@ use Rattle.totals.specs.declared.faults.TotalsFault.{TotalsFault}
 use Rattle.totals.specs.declared.tally.Tally.{Tally}
 use Rattle.totals.specs.Fails.{cause_of_totals}
 use Rattle.totals.proofs.More.{small_counts_lem}
-use Rattle.reading.specs.Turns.{Placement, check_by, Stands, TurnIs}
+use Rattle.reading.specs.Turns.{Placement, check_by, TurnIs}
 use Rattle.reading.proofs.Joins.{lower_refused, lower_passed, upper_refused, upper_passed, placement, placed_behind, few_control_numbers, few_line_numbers, small_given}
 use Rattle.reading.proofs.turns.judge_segment.Goals as goal
 

@@ -1,19 +1,17 @@
-use Rattle.std.proofs.Common.{◌≡◌, ℕ, suc, Bool, true, false, cond, ◌&&◌, eqb, List, [], ◌∷◌, ◌++◌, length, set, replicate, codes, Option, sym, refl, ap, ◌∙◌, subst}
+use Rattle.std.proofs.Common.{◌≡◌, ℕ, true, false, cond, eqb, List, [], ◌∷◌, ◌++◌, set, replicate, codes, sym, ap, ◌∙◌}
 use Rattle.std.proofs.lemmas.Bool.{cond-true, cond-false}
 use Rattle.std.specs.Str.{bytes_eq}
 use Rattle.x12.specs.Segments.{Segment, segment}
 use Rattle.x12.specs.Elements.{element_of_segment}
 use Rattle.placing.specs.Stages.{spot_for}
-use Rattle.placing.specs.Placed.{PlacedSegment, has_row}
+use Rattle.placing.specs.Placed.{PlacedSegment}
 use Rattle.elements.specs.Rules.{value}
 use Rattle.seen.specs.ControlNumbers.{numbers_of as control_numbers_of}
 use Rattle.seen.specs.LineNumbers.{numbers_of as line_numbers_of}
-use Rattle.totals.specs.declared.counts.Counts.{Counts}
-use Rattle.totals.specs.declared.open_line.OpenLine.{OpenLine}
 use Rattle.totals.specs.declared.used_rows.UsedRows.{UsedRows}
 use Rattle.totals.specs.Words.{quantity, is_line, ordered, acknowledged}
 use Rattle.totals.specs.Steps.{counts_behind, line_after}
-use Rattle.totals.proofs.More.{Steps, tally_more}
+use Rattle.totals.proofs.More.{tally_more}
 use Rattle.totals.proofs.tally.Tally.add.Goals as goal
 use Rattle.totals.proofs.tally.Tally.add.Goals.{then-line, else-line, then-same_bytes, else-same_bytes}
 
