@@ -21,16 +21,16 @@ use Rattle.reading.proofs.Promises.{judged_first, few_first, reading_first_one}
 
 -- a regular interchange with these segments: accepted where the rows are enough
 abbrev pub room_verdict : List ℕ → ℕ → ℕ → List PlacedSegment → Verdict
-room_verdict I rows_of_segments rows_of_loops z =
-    cond (leb (length z) rows_of_segments && leb (loops_in z) rows_of_loops) (Accepted (totals_of I z)) (Refused (fault 23 0 0 0))
+room_verdict I segment_rows loop_rows z =
+    cond (leb (length z) segment_rows && leb (loops_in z) loop_rows) (Accepted (totals_of I z)) (Refused (fault 23 0 0 0))
 
 abbrev pub verdict_in : List ℕ → ℕ → ℕ → Result (List PlacedSegment) Fault → Verdict
-verdict_in I rows_of_segments rows_of_loops (Ok z) = room_verdict I rows_of_segments rows_of_loops z
-verdict_in I rows_of_segments rows_of_loops (Err f) = Refused f
+verdict_in I segment_rows loop_rows (Ok z) = room_verdict I segment_rows loop_rows z
+verdict_in I segment_rows loop_rows (Err f) = Refused f
 
 -- the verdict that the judgment gives
 abbrev pub verdict_by : Meaning → List ℕ → ℕ → ℕ → Verdict
-verdict_by m I rows_of_segments rows_of_loops = verdict_in I rows_of_segments rows_of_loops (judge m I)
+verdict_by m I segment_rows loop_rows = verdict_in I segment_rows loop_rows (judge m I)
 
 module _ (m : Meaning) (I : List ℕ) (n l : ℕ) where
   room_right : (z : List PlacedSegment) → Regular m I → OnlyDerived m I z → VerdictOf m I n l (room_verdict I n l z)

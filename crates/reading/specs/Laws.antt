@@ -18,12 +18,12 @@ OneAnswer =
 -- no second one.
 abbrev pub OneVerdict : Type 0
 OneVerdict =
-    (m : Meaning) → Lawful m → (I : List ℕ) (rows_of_segments rows_of_loops : ℕ)
-    → (Regular m I × (Outnumbers m I rows_of_segments rows_of_loops → ⊥))
-    ⊎ ((f : Fault) × First (ReadingMet m I rows_of_segments rows_of_loops) f × ((g : Fault) → First (ReadingMet m I rows_of_segments rows_of_loops) g → g ≡ f))
+    (m : Meaning) → Lawful m → (I : List ℕ) (segment_rows loop_rows : ℕ)
+    → (Regular m I × (Outnumbers m I segment_rows loop_rows → ⊥))
+    ⊎ ((f : Fault) × First (ReadingMet m I segment_rows loop_rows) f × ((g : Fault) → First (ReadingMet m I segment_rows loop_rows) g → g ≡ f))
 
 -- No reading has two verdicts, under whatever guide.
 abbrev pub NoTwoVerdicts : Type 0
 NoTwoVerdicts =
-    (m : Meaning) (I : List ℕ) (rows_of_segments rows_of_loops : ℕ) (u v : Verdict)
-    → VerdictOf m I rows_of_segments rows_of_loops u → VerdictOf m I rows_of_segments rows_of_loops v → u ≡ v
+    (m : Meaning) (I : List ℕ) (segment_rows loop_rows : ℕ) (u v : Verdict)
+    → VerdictOf m I segment_rows loop_rows u → VerdictOf m I segment_rows loop_rows v → u ≡ v

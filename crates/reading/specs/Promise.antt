@@ -32,11 +32,11 @@ cause_of_reading FewRows = fault 23 0 0 0
 
 -- The interchange has a derivation, and it has more segments than there are segment rows, or more loops than there are loop rows.
 abbrev pub Outnumbers : Meaning → List ℕ → ℕ → ℕ → Type 0
-Outnumbers m I rows_of_segments rows_of_loops = (z : List PlacedSegment) × DerivedSo m I z × ((rows_of_segments < length z) ⊎ (rows_of_loops < loops_in z))
+Outnumbers m I segment_rows loop_rows = (z : List PlacedSegment) × DerivedSo m I z × ((segment_rows < length z) ⊎ (loop_rows < loops_in z))
 
 -- a fault of the layers 1 to 4, or too few rows
 abbrev pub ReadingMet : Meaning → List ℕ → ℕ → ℕ → Fault → Type 0
-ReadingMet m I rows_of_segments rows_of_loops f = Met m I f ⊎ (Outnumbers m I rows_of_segments rows_of_loops × (f ≡ fault 23 0 0 0))
+ReadingMet m I segment_rows loop_rows f = Met m I f ⊎ (Outnumbers m I segment_rows loop_rows × (f ≡ fault 23 0 0 0))
 
 -- the totals of an interchange with these segments: segments, sets, PO1 lines, and the sum of PO102
 abbrev pub totals_of : List ℕ → List PlacedSegment → Totals
@@ -75,10 +75,10 @@ pub record ReadingIs (m : Meaning) (I : List ℕ) (segments segments' : List Seg
   pub placement : (f : ReadingFault) → r ≡ Err f → (cause_of_reading f).number ≡ 6 → NoPlace m I (cause_of_reading f).segment
 
 -- The interchange is accepted with these totals where there are so many segment rows and loop rows.
-pub record AcceptedWith (m : Meaning) (I : List ℕ) (rows_of_segments rows_of_loops : ℕ) (t : Totals) : Type 0 where
+pub record AcceptedWith (m : Meaning) (I : List ℕ) (segment_rows loop_rows : ℕ) (t : Totals) : Type 0 where
   -- it meets no fault of the layers 1 to 4, and the rows are enough
   pub regular : Regular m I
-  pub enough : Outnumbers m I rows_of_segments rows_of_loops → ⊥
+  pub enough : Outnumbers m I segment_rows loop_rows → ⊥
   -- its segments have the rows and loops of a derivation, and every derivation gives them these
   pub derivation : List PlacedSegment
   pub derived : DerivedSo m I derivation
@@ -88,5 +88,5 @@ pub record AcceptedWith (m : Meaning) (I : List ℕ) (rows_of_segments rows_of_l
 
 -- The verdict of reading: accepted with its totals, or refused for the first fault that it meets.
 abbrev pub VerdictOf : Meaning → List ℕ → ℕ → ℕ → Verdict → Type 0
-VerdictOf m I rows_of_segments rows_of_loops (Accepted t) = AcceptedWith m I rows_of_segments rows_of_loops t
-VerdictOf m I rows_of_segments rows_of_loops (Refused f) = First (ReadingMet m I rows_of_segments rows_of_loops) f
+VerdictOf m I segment_rows loop_rows (Accepted t) = AcceptedWith m I segment_rows loop_rows t
+VerdictOf m I segment_rows loop_rows (Refused f) = First (ReadingMet m I segment_rows loop_rows) f

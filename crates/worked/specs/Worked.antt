@@ -9,7 +9,7 @@ use Rattle.worked.specs.Cases.{worked}
 
 -- Read under guide B with so many segment rows and loop rows, each has the verdict that stands beside it.
 abbrev pub WorkedCases : ℕ → ℕ → Type 0
-WorkedCases rows_of_segments rows_of_loops = AllByRecursion (λ (c : List ℕ × Verdict). VerdictOf guide_b_meaning c.0 rows_of_segments rows_of_loops c.1) worked
+WorkedCases segment_rows loop_rows = AllByRecursion (λ (c : List ℕ × Verdict). VerdictOf guide_b_meaning c.0 segment_rows loop_rows c.1) worked
 
 -- a text with byte 10 at its end
 abbrev pub as_line : List ℕ → List ℕ
