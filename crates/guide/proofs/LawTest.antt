@@ -5,7 +5,7 @@ use Rattle.std.proofs.lemmas.Bool.Decides.{Decides-and}
 use Rattle.std.proofs.ByRecursion.{Decides-by_and}
 use Rattle.std.specs.List.{AllByRecursion}
 use Rattle.x12.specs.Class.{class_of, within}
-use Rattle.x12.specs.Lists.{every}
+use Rattle.std.specs.List.{list_all}
 use Rattle.x12.specs.Checks.{name_byte, good_name}
 use Rattle.x12.proofs.Meets.{name_byte_decides, name_decides}
 use Rattle.value.specs.declared.forms.Form.{Form}
@@ -38,10 +38,10 @@ abbrev pub uses_test : Standing → Bool
 uses_test s = leb s.this.least s.this.greatest && leb 1 s.this.greatest
 
 abbrev pub words_test : Standing → Bool
-words_test s = good_name s.this.name && all_of (every name_byte) s.this.placing
+words_test s = good_name s.this.name && all_of (list_all name_byte) s.this.placing
 
-code_decides : (v : List ℕ) → Decides (every name_byte v) (AllByRecursion (λ b. (class_of b ≡ 1) ⊎ (class_of b ≡ 2)) v)
-code_decides v = Decides-by_and name_byte (λ b. (class_of b ≡ 1) ⊎ (class_of b ≡ 2)) (every name_byte) name_byte_decides refl (λ _ _. refl) v
+code_decides : (v : List ℕ) → Decides (list_all name_byte v) (AllByRecursion (λ b. (class_of b ≡ 1) ⊎ (class_of b ≡ 2)) v)
+code_decides v = Decides-by_and name_byte (λ b. (class_of b ≡ 1) ⊎ (class_of b ≡ 2)) (list_all name_byte) name_byte_decides refl (λ _ _. refl) v
 
 -- names that only one row may have, by its number, and names that no row may have
 abbrev pub only_test : List ℕ → ℕ → ℕ → Standing → Bool
@@ -325,8 +325,8 @@ module _ (m : Meaning) (po1 ack ctt : ℕ) (t : law_test_by m (size m.tree) po1 
       let a = and_parts (leb s.this.least s.this.greatest) (leb 1 s.this.greatest) (row n s i).1 in
       (leb-true s.this.least s.this.greatest a.0, leb-true 1 s.this.greatest a.1)
 
-  words_kept : (n : ℕ) (s : Standing) → IsRow m n s → (good_name s.this.name ≡ true) × (all_of (every name_byte) s.this.placing ≡ true)
-  words_kept n s i = and_parts (good_name s.this.name) (all_of (every name_byte) s.this.placing) (row n s i).2
+  words_kept : (n : ℕ) (s : Standing) → IsRow m n s → (good_name s.this.name ≡ true) × (all_of (list_all name_byte) s.this.placing ≡ true)
+  words_kept n s i = and_parts (good_name s.this.name) (all_of (list_all name_byte) s.this.placing) (row n s i).2
 
   outside_envelope : (n : ℕ) (name : List ℕ) → OneOf envelope name → Named m n name → ⊥
   outside_envelope n name o h =
@@ -351,7 +351,7 @@ module _ (m : Meaning) (po1 ack ctt : ℕ) (t : law_test_by m (size m.tree) po1 
     ctt_behind_po1 = behind_po1;
     uses = uses_kept;
     names = λ n s i. (name_decides s.this.name).0 (words_kept n s i).0;
-    placings = λ n s i. all_of_lem (every name_byte) (AllByRecursion (λ b. (class_of b ≡ 1) ⊎ (class_of b ≡ 2))) code_decides s.this.placing (words_kept n s i).1;
+    placings = λ n s i. all_of_lem (list_all name_byte) (AllByRecursion (λ b. (class_of b ≡ 1) ⊎ (class_of b ≡ 2))) code_decides s.this.placing (words_kept n s i).1;
     followers = followers_test_sound (label_of m) (rows_of m) passed.7;
     po1 = (po1, po1_row_lem.0, po1_row_lem.1, po1_row_lem.2, po1_row_lem.3, po1_number);
     ack = (ack, ack_row_lem.0, ack_number);

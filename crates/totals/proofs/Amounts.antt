@@ -3,7 +3,7 @@ use Rattle.std.proofs.Common.{◌≡◌, ℕ, zero, suc, ◌+◌, ◌-◌, ◌*�
 use native.Mathlib.Nat.{pow-le-pow_right}
 use Rattle.std.proofs.lemmas.Bool.{and_parts, leb-true, cases_Bool, cond-true, cond-false}
 use Rattle.x12.specs.Class.{within}
-use Rattle.x12.specs.Lists.{every}
+use Rattle.std.specs.List.{list_all}
 use Rattle.value.specs.Digits.{is_digit, digits, number_from, number_of}
 use Rattle.value.proofs.Numbers.{below_ten_more}
 use Rattle.totals.specs.Words.{quantity}
@@ -11,7 +11,7 @@ use Rattle.totals.specs.Words.{quantity}
 number_below : (i n : ℕ) (v : List ℕ) → digits v ≡ true → n < 10 ^ i → number_from n v < 10 ^ (i + length v)
 number_below i n [] h l = let e : i ≡ i + 0 = omega arith in subst (λ (k : ℕ). n < 10 ^ k) e l
 number_below i n (d ∷ ds) h l =
-    let a = and_parts (is_digit d) (every is_digit ds) h in
+    let a = and_parts (is_digit d) (list_all is_digit ds) h in
     let b = and_parts (leb 48 d) (leb d 57) a.0 in
     let hi : d ≤ 57 = leb-true d 57 b.1 in
     let e : (i + 1) + length ds ≡ i + suc (length ds) = omega arith in

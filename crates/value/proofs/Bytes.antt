@@ -6,7 +6,7 @@ use Rattle.std.proofs.lemmas.Bool.Decides.{Decides-eqb, Decides-and, Decides-lik
 use Rattle.std.proofs.ByRecursion.{Decides-by_and}
 use Rattle.std.specs.List.{AllByRecursion}
 use Rattle.x12.specs.Class.{within, class_of}
-use Rattle.x12.specs.Lists.{every, some}
+use Rattle.std.specs.List.{list_all, list_any}
 use Rattle.value.specs.Digits.{is_digit, digits}
 use Rattle.value.specs.Texts.{code_byte, text_byte, is_space}
 use Rattle.value.specs.Means.{Stands, Digit}
@@ -40,19 +40,19 @@ pub space_decides : (b : ℕ) → Decides (is_space b) (b ≡ 32)
 space_decides b = Decides-eqb b 32
 
 -- a test of each byte
-pub every_decides : (f : ℕ → Bool) (P : ℕ → Type 0) → ((b : ℕ) → Decides (f b) (P b)) → (v : List ℕ) → Decides (every f v) (AllByRecursion P v)
-every_decides f P each v = Decides-by_and f P (every f) each refl (λ _ _. refl) v
+pub every_decides : (f : ℕ → Bool) (P : ℕ → Type 0) → ((b : ℕ) → Decides (f b) (P b)) → (v : List ℕ) → Decides (list_all f v) (AllByRecursion P v)
+every_decides f P each v = Decides-by_and f P (list_all f) each refl (λ _ _. refl) v
 
 pub digits_decides : (v : List ℕ) → Decides (digits v) (AllByRecursion Digit v)
 digits_decides v = every_decides is_digit Digit digit_decides v
 
 -- a test of some byte
-pub some_decides : (f : ℕ → Bool) (P : ℕ → Type 0) → ((b : ℕ) → Decides (f b) (P b)) → (v : List ℕ) → Decides (some f v) ((k b : ℕ) × Stands v k b × P b)
+pub some_decides : (f : ℕ → Bool) (P : ℕ → Type 0) → ((b : ℕ) → Decides (f b) (P b)) → (v : List ℕ) → Decides (list_any f v) ((k b : ℕ) × Stands v k b × P b)
 some_decides f P each v =
-    Decides-like (some f v) (λ h. (h.0, get_or v h.0 0, (h.1, refl), h.2 0)) (λ h. (h.0, h.2.0, λ d. subst P (sym (get_or_default v h.0 d 0 h.2.0 ∙ h.2.1)) h.3)) (Decides-by_or f P (some f) each refl (λ _ _. refl) v)
+    Decides-like (list_any f v) (λ h. (h.0, get_or v h.0 0, (h.1, refl), h.2 0)) (λ h. (h.0, h.2.0, λ d. subst P (sym (get_or_default v h.0 d 0 h.2.0 ∙ h.2.1)) h.3)) (Decides-by_or f P (list_any f) each refl (λ _ _. refl) v)
 
 -- some byte fails a test unless each passes it
-pub some_fails : (f : ℕ → Bool) (v : List ℕ) → some (λ b. not (f b)) v ≡ not (every f v)
+pub some_fails : (f : ℕ → Bool) (v : List ℕ) → list_any (λ b. not (f b)) v ≡ not (list_all f v)
 some_fails f [] = refl
 some_fails f (b ∷ v) = de_morgan (f b) _ _ (some_fails f v)
   where

@@ -2,7 +2,7 @@
 use Rattle.std.proofs.Common.{◌≡◌, ℕ, ◌≤◌, not, ◌⊎◌, List, Decides, refl}
 use Rattle.std.proofs.lemmas.Bool.Decides.{Decides-not, Decides-and, Decides-like}
 use Rattle.x12.specs.Class.{class_of}
-use Rattle.x12.specs.Lists.{every, some}
+use Rattle.std.specs.List.{list_all, list_any}
 use Rattle.value.specs.declared.forms.Form.TheVariants.{N0, Q, Id, An, R, D8, D6, Tm, Spaces, Free}
 use Rattle.value.specs.Texts.{code_byte, text_byte, is_space, text}
 use Rattle.value.specs.Means.{Text, TypesMean}
@@ -14,7 +14,7 @@ use Rattle.value.proofs.Signs.{decimal_decides}
 whole_text_decides : (v : List ℕ) → Decides (text v) (Text v)
 whole_text_decides v =
     Decides-like (text v) (λ h. record { bytes = h.0; filled = h.1 }) (λ h. (h.bytes, h.filled))
-    (Decides-and (every text_byte v) (some (λ b. not (is_space b)) v)
+    (Decides-and (list_all text_byte v) (list_any (λ b. not (is_space b)) v)
     (every_decides text_byte (λ b. (1 ≤ class_of b) × (class_of b ≤ 5)) text_decides v)
     (some_decides (λ b. not (is_space b)) (λ b. b ≡ 32 → ⊥) (λ b. Decides-not (is_space b) (space_decides b)) v))
 

@@ -1,16 +1,16 @@
 -- One turn of a loop over bytes, and its end: what is left, seen from its first byte.
 use Rattle.std.proofs.Common.{◌≡◌, ℕ, ◌+◌, ◌-◌, ◌*◌, ◌<◌, ◌≤◌, Bool, true, false, cond, not, ◌&&◌, eqb, List, length, get_or, drop}
 use Rattle.std.proofs.lemmas.List.{at_drop_more, at_drop_all}
-use Rattle.x12.specs.Lists.{every}
+use Rattle.std.specs.List.{list_all}
 use Rattle.value.specs.Digits.{is_digit, count, number_from}
 use Rattle.value.specs.Decimals.{decimal_from}
 
 -- a test of each byte
-pub every_turn : (f : ℕ → Bool) (v : List ℕ) (i : ℕ) → i < length v → every f (drop i v) ≡ (f (get_or v i 0) && every f (drop (i + 1) v))
-every_turn f v i h = at_drop_more (every f) v i 0 h
+pub every_turn : (f : ℕ → Bool) (v : List ℕ) (i : ℕ) → i < length v → list_all f (drop i v) ≡ (f (get_or v i 0) && list_all f (drop (i + 1) v))
+every_turn f v i h = at_drop_more (list_all f) v i 0 h
 
-pub every_end : (f : ℕ → Bool) (v : List ℕ) (i : ℕ) → length v ≤ i → every f (drop i v) ≡ true
-every_end f v i h = at_drop_all (every f) v i h
+pub every_end : (f : ℕ → Bool) (v : List ℕ) (i : ℕ) → length v ≤ i → list_all f (drop i v) ≡ true
+every_end f v i h = at_drop_all (list_all f) v i h
 
 -- a count of bytes
 pub count_turn : (f : ℕ → Bool) (v : List ℕ) (i : ℕ) → i < length v → count f (drop i v) ≡ cond (f (get_or v i 0)) 1 0 + count f (drop (i + 1) v)

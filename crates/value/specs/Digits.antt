@@ -1,7 +1,7 @@
 -- Digits, and the number that they write.
 use Rattle.std.specs.Prelude.{ℕ, ◌+◌, ◌-◌, ◌*◌, Bool, cond, ◌&&◌, List, [], ◌∷◌, length}
 use Rattle.x12.specs.Class.{within}
-use Rattle.x12.specs.Lists.{every}
+use Rattle.std.specs.List.{list_all}
 
 -- the digits 0 to 9 are the bytes 48 to 57
 abbrev pub is_digit : ℕ → Bool
@@ -9,7 +9,7 @@ is_digit b = within 48 57 b
 
 -- each byte is a digit
 abbrev pub digits : List ℕ → Bool
-digits v = every is_digit v
+digits v = list_all is_digit v
 
 -- how many numbers of the list pass the test
 abbrev pub count : (ℕ → Bool) → List ℕ → ℕ

@@ -1,7 +1,7 @@
 -- Codes, texts and spaces.
 use Rattle.std.specs.Prelude.{ℕ, Bool, not, ◌&&◌, List, ◌==◌}
 use Rattle.x12.specs.Class.{within, class_of}
-use Rattle.x12.specs.Lists.{every, some}
+use Rattle.std.specs.List.{list_all, list_any}
 
 -- a byte of a code is of class 1 or 2: a capital letter or a digit
 abbrev pub code_byte : ℕ → Bool
@@ -17,12 +17,12 @@ is_space b = b == 32
 
 -- each byte may stand in a code
 abbrev pub code : List ℕ → Bool
-code v = every code_byte v
+code v = list_all code_byte v
 
 -- each byte may stand in a text, and one at least is no space
 abbrev pub text : List ℕ → Bool
-text v = every text_byte v && some (λ b. not (is_space b)) v
+text v = list_all text_byte v && list_any (λ b. not (is_space b)) v
 
 -- each byte is a space
 abbrev pub spaces : List ℕ → Bool
-spaces v = every is_space v
+spaces v = list_all is_space v

@@ -1,5 +1,5 @@
 ghost use Rattle.std.specs.Prelude.{◌≡◌};
-ghost use Rattle.x12.specs.Lists.{every};
+ghost use Rattle.std.specs.List.{list_all};
 ghost use Rattle.value.specs.Sets.{in_set};
 
 use x12::classes::class;
@@ -32,7 +32,7 @@ impl ByteSet {
 
     // Whether each byte is one of the set.
     pub(crate) fn has_all(self, v: &[u8]) -> bool
-        ensures { result ≡ every (in_set self) v.now }
+        ensures { result ≡ list_all (in_set self) v.now }
     {
         for b in v {
             if !self.has(*b) {

@@ -41,7 +41,7 @@ below_each f (suc n) h k l =
       | inr (inr gt) ↦ absurd (omega arith)
     ]
 
-placed_each : (I : List ℕ) → layout_holds I ≡ true → (k : ℕ) → k < 105 → placed_at I k ≡ true
+pub placed_each : (I : List ℕ) → layout_holds I ≡ true → (k : ℕ) → k < 105 → placed_at I k ≡ true
 unfolding layout_holds
 placed_each I h k l = below_each (placed_at I) 105 h k l
 

@@ -1,4 +1,5 @@
 pub mod Bytes
+pub mod Finds
 pub mod Follows
 pub mod Hands
 pub mod Headers
@@ -9,5 +10,6 @@ pub mod Rank
 pub mod SegmentFaults
 pub mod Splits
 pub mod Splitting
-pub mod Table
+pub mod Places
 pub mod Turns
+pub mod Walks

@@ -7,7 +7,8 @@ use Rattle.std.proofs.lemmas.Bool.Decides.{Decides-eqb, Decides-or, Decides-by_o
 use Rattle.std.specs.List.{ContainsAt as Has, AllByRecursion}
 use Rattle.x12.specs.declared.faults.Fault.{Fault}
 use Rattle.x12.specs.Class.{class_of, within}
-use Rattle.x12.specs.Lists.{every, some, nth, Item, and_then, each}
+use Rattle.std.specs.List.{list_all, list_any}
+use Rattle.x12.specs.Lists.{nth, Item, and_then, each}
 use Rattle.x12.specs.Header.{separator_of, component_of, Sized, Headed, Delimited, sized, headed, delimited}
 use Rattle.x12.specs.Segments.{Part, Segment, segments_of}
 use Rattle.x12.specs.Elements.{elements_of, end_of, part_at, element_at, place_of}
@@ -24,14 +25,14 @@ use Rattle.x12.proofs.Judged.{Or, Judged, Earlier, Anything, Any, Never, judged_
 bad_decides : (component b : ℕ) → Decides (bad_byte component b) ((class_of b ≡ 0) ⊎ (b ≡ component))
 bad_decides component b = Decides-or (eqb (class_of b) 0) (eqb b component) (Decides-eqb (class_of b) 0) (Decides-eqb b component)
 
-some_bad : (component : ℕ) (v : List ℕ) → some (bad_byte component) v ≡ true → (b : ℕ) × Has v b × ((class_of b ≡ 0) ⊎ (b ≡ component))
+some_bad : (component : ℕ) (v : List ℕ) → list_any (bad_byte component) v ≡ true → (b : ℕ) × Has v b × ((class_of b ≡ 0) ⊎ (b ≡ component))
 some_bad component v h =
-    let t = (Decides-by_or (bad_byte component) (λ b. (class_of b ≡ 0) ⊎ (b ≡ component)) (some (bad_byte component)) (bad_decides component) refl (λ _ _. refl) v).0 h in
+    let t = (Decides-by_or (bad_byte component) (λ b. (class_of b ≡ 0) ⊎ (b ≡ component)) (list_any (bad_byte component)) (bad_decides component) refl (λ _ _. refl) v).0 h in
     (get_or v t.0 0, has_get_or v t.0 0 t.1, t.2 0)
 
-bad_some : (component : ℕ) (v : List ℕ) (b : ℕ) → Has v b → ((class_of b ≡ 0) ⊎ (b ≡ component)) → some (bad_byte component) v ≡ true
+bad_some : (component : ℕ) (v : List ℕ) (b : ℕ) → Has v b → ((class_of b ≡ 0) ⊎ (b ≡ component)) → list_any (bad_byte component) v ≡ true
 bad_some component v b h u =
-    (Decides-by_or (bad_byte component) (λ b. (class_of b ≡ 0) ⊎ (b ≡ component)) (some (bad_byte component)) (bad_decides component) refl (λ _ _. refl) v).1
+    (Decides-by_or (bad_byte component) (λ b. (class_of b ≡ 0) ⊎ (b ≡ component)) (list_any (bad_byte component)) (bad_decides component) refl (λ _ _. refl) v).1
     (h.0, h.1, λ d. subst (λ (x : ℕ). (class_of x ≡ 0) ⊎ (x ≡ component)) (sym (h.2 d)) u)
 
 pub name_byte_decides : (b : ℕ) → Decides (name_byte b) ((class_of b ≡ 1) ⊎ (class_of b ≡ 2))
@@ -52,17 +53,17 @@ name_byte_decides b = (means, from)
 pub name_decides : (v : List ℕ) → Decides (good_name v) (Name v)
 name_decides v = (means, from)
   where
-    bytes : Decides (every name_byte v) (AllByRecursion (λ b. (class_of b ≡ 1) ⊎ (class_of b ≡ 2)) v)
-    bytes = Decides-by_and name_byte (λ b. (class_of b ≡ 1) ⊎ (class_of b ≡ 2)) (every name_byte) name_byte_decides refl (λ _ _. refl) v
+    bytes : Decides (list_all name_byte v) (AllByRecursion (λ b. (class_of b ≡ 1) ⊎ (class_of b ≡ 2)) v)
+    bytes = Decides-by_and name_byte (λ b. (class_of b ≡ 1) ⊎ (class_of b ≡ 2)) (list_all name_byte) name_byte_decides refl (λ _ _. refl) v
 
     means : good_name v ≡ true → Name v
     means h =
-        let p = and_parts (within 2 3 (length v)) (every name_byte v) h in
+        let p = and_parts (within 2 3 (length v)) (list_all name_byte v) h in
         let q = and_parts (leb 2 (length v)) (leb (length v) 3) p.0 in
         (leb-true 2 (length v) q.0, leb-true (length v) 3 q.1, bytes.0 p.1)
 
     from : Name v → good_name v ≡ true
-    from n = and_from (within 2 3 (length v)) (every name_byte v) (and_from (leb 2 (length v)) (leb (length v) 3) (le-leb 2 (length v) n.0) (le-leb (length v) 3 n.1)) (bytes.1 n.2)
+    from n = and_from (within 2 3 (length v)) (list_all name_byte v) (and_from (leb 2 (length v)) (leb (length v) 3) (le-leb 2 (length v) n.0) (le-leb (length v) 3 n.1)) (bytes.1 n.2)
 
 -- an item by its number
 item_part : (stop : ℕ) (ps : List Part) (d n : ℕ) (p : Part) → Item d ps n p → part_at stop ps (n - d) ≡ p
@@ -129,8 +130,8 @@ module _ (I : List ℕ) where
   part_judged_lem : (k : ℕ) (s : Segment) (e : ℕ) (p : Part) → Judged (InPart k s e p) Anything (part_check (component_of I) k s.closed e p)
   part_judged_lem k s e p =
       judged_test (Bad k s e p) (Or (Ill k s e p) Never) Anything bad (fault 4 k e p.0) _
-      (λ t. let q = and_parts (not (is_isa16 k e)) (some (bad_byte (component_of I)) p.1) t in (not_isa16 k e q.0, some_bad (component_of I) p.1 q.1, refl))
-      (λ g b. (and_from (not (is_isa16 k e)) (some (bad_byte (component_of I)) p.1) (isa16_not k e b.0) (bad_some (component_of I) p.1 b.1.0 b.1.1 b.1.2), b.2))
+      (λ t. let q = and_parts (not (is_isa16 k e)) (list_any (bad_byte (component_of I)) p.1) t in (not_isa16 k e q.0, some_bad (component_of I) p.1 q.1, refl))
+      (λ g b. (and_from (not (is_isa16 k e)) (list_any (bad_byte (component_of I)) p.1) (isa16_not k e b.0) (bad_some (component_of I) p.1 b.1.0 b.1.1 b.1.2), b.2))
       bad_first
       (judged_test (Ill k s e p) Never Anything ill (fault 5 k 0 p.0) (Ok tt)
       (λ t. let q = and_parts (eqb e 0) (not s.closed || not (good_name p.1)) t in (eqb-true e 0 q.0, ill_test s p.1 q.1, refl))
@@ -139,7 +140,7 @@ module _ (I : List ℕ) where
       (judged_none Anything tt tt))
     where
       bad : Bool
-      bad = not (is_isa16 k e) && some (bad_byte (component_of I)) p.1
+      bad = not (is_isa16 k e) && list_any (bad_byte (component_of I)) p.1
 
       ill : Bool
       ill = eqb e 0 && (not s.closed || not (good_name p.1))

@@ -1,9 +1,9 @@
 -- One part, or one segment, picked by its number.
-use Rattle.std.proofs.Common.{◌≡◌, ℕ, zero, suc, ◌+◌, ◌-◌, ◌<◌, ◌≤◌, List, [], ◌∷◌, length, take, drop, Some, None, sym, ap, ◌∙◌, inl, inr, arith}
+use Rattle.std.proofs.Common.{◌≡◌, ℕ, zero, suc, ◌+◌, ◌-◌, ◌<◌, ◌≤◌, List, [], ◌∷◌, length, take, drop, Some, None, ◌⊎◌, sym, refl, ap, ◌∙◌, inl, inr, arith}
 use Rattle.std.proofs.lemmas.List.Edits.{length-between}
 use Rattle.std.proofs.lemmas.List.{drop-drop, take-take}
 use Rattle.std.proofs.lemmas.Slice.{between_is}
-use Rattle.std.proofs.lemmas.Bool.{cases_lt}
+use Rattle.std.proofs.lemmas.Bool.{cases_lt, cases_order}
 use Rattle.std.specs.List.{between}
 use Rattle.x12.specs.Lists.{nth}
 use Rattle.x12.specs.Segments.{Part, parts_of}
@@ -49,6 +49,24 @@ pub nth_later : {A : Type 0} (x : A) (xs ys : List A) (k : ℕ) → ys ≡ x ∷
 nth_later x xs ys zero e lt = absurd (omega arith)
 nth_later x xs ys (suc zero) e lt = absurd (omega arith)
 nth_later x xs ys (suc (suc k)) e lt = let z : suc k ≡ suc (suc k) - 1 = omega arith in ap (λ l. nth l (suc (suc k))) e ∙ ap (nth xs) z
+
+nth_zero : {A : Type 0} (xs : List A) → nth xs 0 ≡ None
+nth_zero [] = refl
+nth_zero (x ∷ xs) = refl
+
+-- one turn of a walk that looks for the segment with number k and is behind n others; there is none with the number 0
+pub nth_next : {A : Type 0} (x : A) (xs ys : List A) (k n m : ℕ) → ys ≡ x ∷ xs → m ≡ suc n → (k ≡ 0) ⊎ (n < k) → (m ≡ k → ⊥)
+    → ((k ≡ 0) ⊎ (m < k)) × (nth ys (k - n) ≡ nth xs (k - m))
+nth_next x xs ys k n m e q (inl z) other =
+    let a : k - n ≡ 0 = omega arith in
+    let b : k - m ≡ 0 = omega arith in
+    (inl z, ap (nth ys) a ∙ nth_zero ys ∙ sym (ap (nth xs) b ∙ nth_zero xs))
+nth_next x xs ys k n m e q (inr lt) other =
+    elim (cases_order m k) [
+      | inl same ↦ absurd (other same)
+      | inr (inl less) ↦ (inr less, nth_later x xs ys (k - n) e (omega arith) ∙ (let z : k - n - 1 ≡ k - m = omega arith in ap (nth xs) z))
+      | inr (inr more) ↦ absurd (omega arith)
+    ]
 
 pub nth_none : {A : Type 0} (ys : List A) (k : ℕ) → ys ≡ [] → nth ys k ≡ None
 nth_none ys k e = ap (λ l. nth l k) e

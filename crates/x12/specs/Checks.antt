@@ -2,7 +2,8 @@
 use Rattle.std.specs.Prelude.{ℕ, Bool, cond, not, ◌&&◌, ◌||◌, List, length, Ok, Err, Result, ◌==◌}
 use Rattle.x12.specs.declared.faults.Fault.{Fault}
 use Rattle.x12.specs.Class.{within, class_of}
-use Rattle.x12.specs.Lists.{every, some, and_then, each}
+use Rattle.std.specs.List.{list_all, list_any}
+use Rattle.x12.specs.Lists.{and_then, each}
 use Rattle.x12.specs.Header.{separator_of, component_of, sized, headed, delimited}
 use Rattle.x12.specs.Segments.{Part, Segment, segments_of}
 use Rattle.x12.specs.Elements.{elements_of}
@@ -22,7 +23,7 @@ abbrev pub name_byte : ℕ → Bool
 name_byte b = within 1 2 (class_of b)
 
 abbrev pub good_name : List ℕ → Bool
-good_name v = within 2 3 (length v) && every name_byte v
+good_name v = within 2 3 (length v) && list_all name_byte v
 
 -- element 16 of the first segment holds the component separator itself
 abbrev pub is_isa16 : ℕ → ℕ → Bool
@@ -35,7 +36,7 @@ part_judged bad k closed e p =
     (cond (e == 0 && (not closed || not (good_name p.1))) (Err (fault 5 k 0 p.0)) (Ok tt))
 
 abbrev pub part_check : ℕ → ℕ → Bool → ℕ → Part → Result (Unit {0}) Fault
-part_check component k closed e p = part_judged (some (bad_byte component) p.1) k closed e p
+part_check component k closed e p = part_judged (list_any (bad_byte component) p.1) k closed e p
 
 -- the elements of segment k in order
 abbrev pub segment_check : ℕ → ℕ → ℕ → Segment → Result (Unit {0}) Fault

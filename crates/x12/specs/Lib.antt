@@ -1,11 +1,14 @@
 pub mod Lists
 pub mod Class
+pub mod Classes
 pub mod Header
 pub mod Segments
 pub mod Elements
+pub mod Views
 pub mod Causes
 pub mod Rank
 pub mod Checks
 pub mod Met
 pub mod Find
+pub mod Comes
 pub mod Laws

@@ -1,16 +1,7 @@
 -- Words for lists, tests and checks that all definitions share.
 -- `cond`, `&&` and `||` compute all their arguments, so a branch that recurses is bound by a `let`, which waits.
+use Rattle.std.specs.List.{list_any}
 use Rattle.std.specs.Prelude.{◌≡◌, ℕ, zero, suc, Bool, true, false, ◌&&◌, ◌||◌, ◌⊎◌, List, [], ◌∷◌, Some, None, Ok, Err, Option, Result, nat_eq}
-
--- each number of the list passes the test
-abbrev pub every : (ℕ → Bool) → List ℕ → Bool
-every f [] = true
-every f (x ∷ xs) = let more = every f xs in f x && more
-
--- some number of the list passes the test
-abbrev pub some : (ℕ → Bool) → List ℕ → Bool
-some f [] = false
-some f (x ∷ xs) = let more = some f xs in f x || more
 
 -- each number below n passes the test
 abbrev pub below : (ℕ → Bool) → ℕ → Bool
@@ -19,7 +10,7 @@ below f (suc n) = let less = below f n in f n && less
 
 -- n is one of the list
 abbrev pub among : ℕ → List ℕ → Bool
-among n xs = some (λ x. nat_eq n x) xs
+among n xs = list_any (λ x. nat_eq n x) xs
 
 -- there is at least one byte
 abbrev pub filled : List ℕ → Bool

@@ -1,21 +1,36 @@
 ghost use Rattle.std.specs.Prelude.{◌≡◌};
+ghost use Rattle.x12.specs.Classes.{number_of_class};
 ghost use Rattle.x12.specs.Class.{class_of};
 
-// The class of each byte.
-const CLASSES: [u8; 256] = [
-    0, 0, 0, 0, 0, 0, 0, 0, 0, 0, 0, 0, 0, 0, 0, 0, 0, 0, 0, 0, 0, 0, 0, 0, 0, 0, 0, 0, 0, 0, 0, 0,
-    3, 5, 5, 5, 5, 5, 5, 5, 5, 5, 5, 5, 5, 5, 5, 5, 2, 2, 2, 2, 2, 2, 2, 2, 2, 2, 5, 5, 5, 5, 5, 5,
-    5, 1, 1, 1, 1, 1, 1, 1, 1, 1, 1, 1, 1, 1, 1, 1, 1, 1, 1, 1, 1, 1, 1, 1, 1, 1, 1, 5, 5, 5, 5, 5,
-    5, 4, 4, 4, 4, 4, 4, 4, 4, 4, 4, 4, 4, 4, 4, 4, 4, 4, 4, 4, 4, 4, 4, 4, 4, 4, 4, 5, 5, 5, 5, 0,
-    0, 0, 0, 0, 0, 0, 0, 0, 0, 0, 0, 0, 0, 0, 0, 0, 0, 0, 0, 0, 0, 0, 0, 0, 0, 0, 0, 0, 0, 0, 0, 0,
-    0, 0, 0, 0, 0, 0, 0, 0, 0, 0, 0, 0, 0, 0, 0, 0, 0, 0, 0, 0, 0, 0, 0, 0, 0, 0, 0, 0, 0, 0, 0, 0,
-    0, 0, 0, 0, 0, 0, 0, 0, 0, 0, 0, 0, 0, 0, 0, 0, 0, 0, 0, 0, 0, 0, 0, 0, 0, 0, 0, 0, 0, 0, 0, 0,
-    0, 0, 0, 0, 0, 0, 0, 0, 0, 0, 0, 0, 0, 0, 0, 0, 0, 0, 0, 0, 0, 0, 0, 0, 0, 0, 0, 0, 0, 0, 0, 0,
-];
+// The classes of bytes.
+#[derive(Clone, Copy, Debug, PartialEq, Eq)]
+pub enum Class {
+    // Class 0: the bytes that stand in no other.
+    Outside,
+    // Class 1: A to Z.
+    Capital,
+    // Class 2: 0 to 9.
+    Digit,
+    // Class 3: the space.
+    Space,
+    // Class 4: a to z.
+    Small,
+    // Class 5: the other bytes from 33 to 126.
+    Other,
+}
 
-// The class of a byte: 1 for A to Z, 2 for 0 to 9, 3 for the space, 4 for a to z, 5 for the other bytes from 33 to 126, 0 for the rest.
-pub fn class(b: u8) -> u8
-    ensures { result ≡ class_of b }
-{
-    CLASSES[b as usize]
+impl Class {
+    // The class of a byte.
+    pub fn of(b: u8) -> Class
+        ensures { number_of_class result ≡ class_of b }
+    {
+        match b {
+            b'A'..=b'Z' => Class::Capital,
+            b'0'..=b'9' => Class::Digit,
+            b' ' => Class::Space,
+            b'a'..=b'z' => Class::Small,
+            33..=126 => Class::Other,
+            _ => Class::Outside,
+        }
+    }
 }

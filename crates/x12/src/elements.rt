@@ -1,54 +1,106 @@
-ghost use Rattle.std.specs.Prelude.{◌≡◌, ◌+◌, ◌^◌, ◌<◌, ◌≢◌, [], length, MatchOption};
+ghost use Rattle.std.specs.Prelude.{◌≡◌, ◌≤◌, ◌≢◌, [], length, IfSome, MatchOption};
+ghost use Rattle.std.specs.Iterator.{at_most};
+ghost use Rattle.std.proofs.Props.{props};
 ghost use Rattle.x12.specs.Header.{Sound};
-ghost use Rattle.x12.specs.Segments.{segment as as_segment};
+ghost use Rattle.x12.specs.Views.{plain};
 ghost use Rattle.x12.specs.Elements.{element_of_segment, element_of, PartOf, HandedOut};
 
 use crate::find::find_from;
 use crate::header::read_header;
 use crate::parts::{Element, Segment};
-use crate::segments::next_segment;
+use crate::segments::Segments;
 
-// Element `number` of a segment with its place. One that is absent has no bytes and stands at the segment's end.
-pub fn part_in<'a>(separator: u8, segment: Segment<'a>, number: usize) -> Element<'a>
-    requires { segment.place + length segment.bytes.now < 2 ^ 64 }
-    ensures { (element_of_segment separator (as_segment (segment.entry.place, segment.entry.bytes.now) segment.entry.closed) number ≡ (result.place, result.bytes.now))
-        × PartOf segment.entry.bytes.now segment.entry.place result.place result.bytes.now }
-{
-    let bytes = segment.bytes;
-    let mut at = 0;
-    let mut left = number;
-    while left > 0 {
-        let end = find_from(bytes, at, separator);
-        if end == bytes.len() {
-            return Element {
-                place: segment.place + end,
-                bytes: &bytes[end..end],
-            };
+// The elements of a segment that are still to come: where the next begins, if there is one, and its number.
+#[derive(Clone, Copy)]
+pub struct Elements<'a> {
+    pub segment: Segment<'a>,
+    pub at: Option<usize>,
+    pub number: usize,
+    ghost counted: { IfSome at (λ a. (number ≤ a) × (a ≤ length segment.bytes.now)) } by { Prim.hlevel props },
+}
+
+impl<'a> Iterator for Elements<'a> {
+    type Item = Element<'a>;
+
+    ghost use Rattle.x12.specs.Comes.{ElementComes, element_room};
+
+    ghost next_gives = { ElementComes };
+
+    ghost remaining = { λ s. at_most (element_room s) };
+
+    // The next element: it runs to the next separator, or to the end of the segment.
+    fn next(&mut self) -> Option<Element<'a>> {
+        let Some(at) = self.at else {
+            return None;
+        };
+        let segment = self.segment;
+        let end = find_from(segment.bytes, at, segment.delimiters.separator);
+        let element = Element {
+            number: self.number,
+            place: segment.place + at,
+            bytes: &segment.bytes[at..end],
+        };
+        if end == segment.bytes.len() {
+            self.at = None;
+            return Some(element);
         }
-        at = end + 1;
-        left -= 1;
-    }
-    let end = find_from(bytes, at, separator);
-    Element {
-        place: segment.place + at,
-        bytes: &bytes[at..end],
+        self.at = Some(end + 1);
+        self.number += 1;
+        Some(element)
     }
 }
 
-// Element `number` of a segment; none where it is absent or empty.
-pub fn element_in<'a>(separator: u8, segment: Segment<'a>, number: usize) -> Option<Element<'a>>
-    requires { segment.place + length segment.bytes.now < 2 ^ 64 }
-    ensures { MatchOption result
-        ((element_of_segment separator (as_segment (segment.entry.place, segment.entry.bytes.now) segment.entry.closed) number).1 ≡ [])
-        (λ e. (e.bytes.now ≢ [])
-        × (element_of_segment separator (as_segment (segment.entry.place, segment.entry.bytes.now) segment.entry.closed) number ≡ (e.place, e.bytes.now))
-        × PartOf segment.entry.bytes.now segment.entry.place e.place e.bytes.now) }
-{
-    let element = part_in(separator, segment, number);
-    if element.bytes.is_empty() {
-        return None;
+impl<'a> Segment<'a> {
+    // The elements of the segment, its name first.
+    pub fn elements(&self) -> Elements<'a>
+        ensures { (result.segment ≡ self.now) × (result.at ≡ Some 0) × (result.number ≡ 0) }
+    {
+        Elements {
+            segment: *self,
+            at: Some(0),
+            number: 0,
+        }
     }
-    Some(element)
+
+    // Element `number` with its place. One that is absent has no bytes and stands at the segment's end.
+    pub fn part(&self, number: usize) -> Element<'a>
+        ensures { (element_of_segment self.now.delimiters.separator (plain self.now) number ≡ (result.place, result.bytes.now))
+            × PartOf self.now.bytes.now self.now.place result.place result.bytes.now }
+    {
+        for element in self.elements() {
+            if element.number == number {
+                return element;
+            }
+        }
+        let end = self.bytes.len();
+        Element {
+            number,
+            place: self.place + end,
+            bytes: &self.bytes[end..],
+        }
+    }
+
+    // The bytes of element `number`; an absent element has none.
+    pub fn bytes_of(&self, number: usize) -> &'a [u8]
+        ensures { result.now ≡ (element_of_segment self.now.delimiters.separator (plain self.now) number).1 }
+    {
+        self.part(number).bytes
+    }
+
+    // Element `number`; none where it is absent or empty.
+    pub fn element(&self, number: usize) -> Option<Element<'a>>
+        ensures { MatchOption result
+            ((element_of_segment self.now.delimiters.separator (plain self.now) number).1 ≡ [])
+            (λ e. (e.bytes.now ≢ [])
+            × (element_of_segment self.now.delimiters.separator (plain self.now) number ≡ (e.place, e.bytes.now))
+            × PartOf self.now.bytes.now self.now.place e.place e.bytes.now) }
+    {
+        let element = self.part(number);
+        if element.bytes.is_empty() {
+            return None;
+        }
+        Some(element)
+    }
 }
 
 // Element `number` of segment `segment`, counted from 1; number 0 is the segment's name.
@@ -61,17 +113,10 @@ pub fn element<'a>(interchange: &'a [u8], segment: usize, number: usize) -> Opti
     let Ok(delimiters) = read_header(interchange) else {
         return None;
     };
-    if segment == 0 {
-        return None;
-    }
-    let mut at = 0;
-    let mut left = segment;
-    while let Some(found) = next_segment(interchange, delimiters, at) {
-        if left == 1 {
-            return element_in(delimiters.separator, found, number);
+    for found in Segments::new(interchange, delimiters) {
+        if found.number == segment {
+            return found.element(number);
         }
-        at = found.place + found.bytes.len() + 1;
-        left -= 1;
     }
     None
 }

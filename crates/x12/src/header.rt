@@ -1,10 +1,11 @@
-ghost use Rattle.std.specs.Prelude.{◌≡◌, ◌≤◌, true, length, Ok, Err, MatchResult};
+ghost use Rattle.std.specs.Prelude.{◌≡◌, ◌≤◌, true, length, take, Ok, Err, MatchResult};
+ghost use Rattle.std.specs.List.{list_all, enumerate_from};
 ghost use Rattle.x12.specs.Lists.{among};
 ghost use Rattle.x12.specs.Header.{separator_of, component_of, terminator_of, separator_places, named, placed, layout_holds, delimited};
 ghost use Rattle.x12.specs.Causes.{cause_of};
 ghost use Rattle.x12.specs.Checks.{header_check};
 
-use crate::classes::class;
+use crate::classes::Class;
 use crate::faults::ByteFault;
 use crate::parts::Delimiters;
 
@@ -33,19 +34,23 @@ fn is_placed(separator: u8, terminator: u8, i: usize, b: u8) -> bool
     b != terminator && (b == separator) == is_separator_place(i)
 }
 
+// Whether each byte before byte 105 may stand at its place.
+fn has_placed(separator: u8, terminator: u8, interchange: &[u8]) -> bool
+    ensures { result ≡ list_all (λ p. placed separator terminator p.0 p.1) (take 105 (enumerate_from 0 interchange.now)) }
+{
+    interchange
+        .iter()
+        .enumerate()
+        .take(105)
+        .all(|(i, b)| is_placed(separator, terminator, i, *b))
+}
+
 // Whether before byte 105 no terminator stands and the separator stands at its sixteen places and no other.
 fn is_laid_out(interchange: &[u8]) -> bool
     requires { 106 ≤ length interchange.now }
     ensures { result ≡ layout_holds interchange.now }
 {
-    let separator = interchange[3];
-    let terminator = interchange[105];
-    for i in 0..105 {
-        if !is_placed(separator, terminator, i, interchange[i]) {
-            return false;
-        }
-    }
-    true
+    has_placed(interchange[3], interchange[105], interchange)
 }
 
 // The delimiters of an interchange, or why its header is refused.
@@ -63,7 +68,10 @@ pub fn read_header(interchange: &[u8]) -> Result<Delimiters, ByteFault>
     let separator = interchange[3];
     let component = interchange[104];
     let terminator = interchange[105];
-    if class(separator) != 5 || class(component) != 5 || class(terminator) != 5 {
+    if Class::of(separator) != Class::Other
+        || Class::of(component) != Class::Other
+        || Class::of(terminator) != Class::Other
+    {
         return Err(ByteFault::WrongDelimiter);
     }
     Ok(Delimiters {

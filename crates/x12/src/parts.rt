@@ -1,4 +1,4 @@
-ghost use Rattle.std.specs.Prelude.{◌≡◌};
+ghost use Rattle.std.specs.Prelude.{◌≡◌, ◌+◌, ◌^◌, ◌<◌, length};
 ghost use Rattle.x12.specs.Class.{class_of};
 
 // The three delimiters of an interchange, each of class 5.
@@ -10,17 +10,22 @@ pub struct Delimiters {
     ghost printed: { (class_of separator ≡ 5) × (class_of component ≡ 5) × (class_of terminator ≡ 5) },
 }
 
-// A segment: its place in the interchange, its bytes without the terminator, and whether a terminator ends it.
+// A segment: its number, counted from 1, its place in the interchange, its bytes without the terminator, whether a terminator ends it, and the
+// delimiters of the interchange.
 #[derive(Clone, Copy)]
 pub struct Segment<'a> {
+    pub number: usize,
     pub place: usize,
     pub bytes: &'a [u8],
     pub closed: bool,
+    pub delimiters: Delimiters,
+    ghost fits: { place + length bytes.now < 2 ^ 64 },
 }
 
-// An element: that very part of the interchange, with its place.
+// An element: its number in its segment, whose name is element 0, and that very part of the interchange, with its place.
 #[derive(Clone, Copy)]
 pub struct Element<'a> {
+    pub number: usize,
     pub place: usize,
     pub bytes: &'a [u8],
 }

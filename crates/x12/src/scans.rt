@@ -4,10 +4,9 @@ ghost use Rattle.x12.specs.Causes.{cause_of};
 ghost use Rattle.x12.specs.Rank.{First, NoneOf};
 ghost use Rattle.x12.specs.Met.{Met};
 
-use crate::checks::check_segment;
 use crate::faults::ByteFault;
 use crate::header::read_header;
-use crate::segments::next_segment;
+use crate::segments::Segments;
 
 // The number of segments of an interchange that meets no byte fault, else the first byte fault that it meets.
 pub fn scan(interchange: &[u8]) -> Result<usize, ByteFault>
@@ -17,11 +16,9 @@ pub fn scan(interchange: &[u8]) -> Result<usize, ByteFault>
 {
     let delimiters = read_header(interchange)?;
     let mut count = 0;
-    let mut at = 0;
-    while let Some(segment) = next_segment(interchange, delimiters, at) {
-        count += 1;
-        check_segment(delimiters, count, segment)?;
-        at = segment.place + segment.bytes.len() + 1;
+    for segment in Segments::new(interchange, delimiters) {
+        segment.check()?;
+        count = segment.number;
     }
     Ok(count)
 }

@@ -1,12 +1,10 @@
-use Rattle.std.proofs.Common.{◌≡◌, ◌+◌, ◌-◌, ◌≤◌, length}
+use Rattle.std.proofs.Common.{◌≡◌, ◌-◌, ◌≤◌, ◌<◌, ◌⊎◌}
 use Rattle.x12.specs.Lists.{nth}
 use Rattle.x12.specs.Segments.{segments_from, segments_of}
+use Rattle.x12.proofs.Walks.{On}
 use Rattle.x12.proofs.elements.element.Given as goal
 
 abbrev pub invariant-loop-found : goal.invariant-loop-found
 invariant-loop-found l =
-    (l.at ≤ length l.interchange + 1) × (1 ≤ l.left)
-    × (nth (segments_of l.interchange) l.segment ≡ nth (segments_from l.delimiters.terminator l.at l.interchange) l.left)
-
-abbrev pub decreases-loop-found : goal.decreases-loop-found
-decreases-loop-found l = length l.interchange + 1 - l.at
+    On l.interchange l.initial.found-iterator.delimiters l.found-iterator × ((l.segment ≡ 0) ⊎ (l.found-iterator.count < l.segment))
+    × (nth (segments_of l.interchange) l.segment ≡ nth (segments_from l.initial.found-iterator.delimiters.terminator l.found-iterator.at l.interchange) (l.segment - l.found-iterator.count))
