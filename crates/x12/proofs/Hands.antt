@@ -1,5 +1,5 @@
 -- An element that is handed out by its numbers.
-use Rattle.std.proofs.Common.{◌≡◌, ℕ, ◌+◌, ◌≤◌, ◌≢◌, List, [], ◌∷◌, length, Some, None, Option, sym, refl, ap, ◌∙◌, MatchOption}
+use Rattle.std.proofs.Common.{◌≡◌, ℕ, ◌+◌, ◌≤◌, ◌≢◌, List, [], length, Some, None, Option, sym, ap, ◌∙◌, MatchOption}
 use Rattle.std.specs.List.{between}
 use Rattle.x12.specs.Lists.{nth}
 use Rattle.x12.specs.Header.{separator_of, Sound}
@@ -10,13 +10,6 @@ use Rattle.x12.proofs.Picks.{part_within}
 -- where the segment is absent there is no element
 pub no_segment : (I : List ℕ) (k n : ℕ) → nth (segments_of I) k ≡ None → element_of I k n ≡ []
 no_segment I k n h = ap (λ (o : Option Segment). (element_at (separator_of I) o n).1) h
-
-pub no_zeroth : (I : List ℕ) (k n : ℕ) → k ≡ 0 → element_of I k n ≡ []
-no_zeroth I k n h = no_segment I k n (ap (nth (segments_of I)) h ∙ at_zero (segments_of I))
-  where
-    at_zero : (xs : List Segment) → nth xs 0 ≡ None
-    at_zero [] = refl
-    at_zero (x ∷ xs) = refl
 
 -- what a segment hands out, the interchange does
 pub handed_out : (I : List ℕ) (k n separator : ℕ) (s : Segment) → Sound I → separator ≡ separator_of I → nth (segments_of I) k ≡ Some s

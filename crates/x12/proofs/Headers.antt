@@ -1,7 +1,7 @@
 -- The tests of the header decide its rules.
 use Rattle.std.proofs.Common.{◌≡◌, ℕ, zero, suc, ◌<◌, ◌≤◌, Bool, true, false, cond, not, ◌&&◌, T, eqb, leb, ◌⊎◌, List, [], ◌∷◌, length, get_or, take, Ok, Err, codes, sym, refl, ap, ◌∙◌, inl, inr, arith, lit<}
 use mathlib.Core.Bool.{beq}
-use Rattle.std.proofs.lemmas.Bool.{true≢false, not-true, not_from_false, eqb-true, eqb-false, eq-eqb, ne_eqb, leb-true, le-leb, and_parts, and_from, and_left, and_right, cond-true, cases_order, cases_lt, cases_Bool}
+use Rattle.std.proofs.lemmas.Bool.{true≢false, not-true, not_from_false, eqb-true, eqb-false, eq-eqb, ne_eqb, leb-true, le-leb, and_parts, and_from, cond-true, cases_order, cases_lt, cases_Bool}
 use Rattle.x12.specs.Class.{class_of}
 use Rattle.x12.specs.Causes.{fault}
 use Rattle.x12.specs.Checks.{header_check}
@@ -13,22 +13,9 @@ pub below_all : (f : ℕ → Bool) (n : ℕ) → ((k : ℕ) → k < n → f k �
 below_all f zero h = refl
 below_all f (suc n) h = and_from (f n) (below f n) (h n (omega arith)) (below_all f n (λ k l. h k (omega arith)))
 
-pub below_not : (f : ℕ → Bool) (n k : ℕ) → k < n → f k ≡ false → below f n ≡ false
-below_not f zero k l h = absurd (omega arith)
-below_not f (suc n) k l h =
-    elim (cases_order k n) [
-      | inl e ↦ and_left (f n) (below f n) (ap f (sym e) ∙ h)
-      | inr (inl lt) ↦ and_right (f n) (below f n) (below_not f n k lt h)
-      | inr (inr gt) ↦ absurd (omega arith)
-    ]
-
 pub laid_out : (I : List ℕ) → ((k : ℕ) → k < 105 → placed_at I k ≡ true) → true ≡ layout_holds I
 unfolding layout_holds
 laid_out I h = sym (below_all (placed_at I) 105 h)
-
-pub not_laid_out : (I : List ℕ) (k : ℕ) → k < 105 → placed_at I k ≡ false → false ≡ layout_holds I
-unfolding layout_holds
-not_laid_out I k l h = sym (below_not (placed_at I) 105 k l h)
 
 -- every number below n passes the test, if the test of all does
 pub below_each : (f : ℕ → Bool) (n : ℕ) → below f n ≡ true → (k : ℕ) → k < n → f k ≡ true

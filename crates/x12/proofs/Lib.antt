@@ -1,4 +1,3 @@
-pub mod Bytes
 pub mod Finds
 pub mod Follows
 pub mod Hands

@@ -3,43 +3,10 @@ use Rattle.std.proofs.Common.{◌≡◌, ℕ, zero, suc, ◌+◌, ◌-◌, ◌<�
 use Rattle.std.proofs.lemmas.List.Edits.{length-between}
 use Rattle.std.proofs.lemmas.List.{drop-drop, take-take}
 use Rattle.std.proofs.lemmas.Slice.{between_is}
-use Rattle.std.proofs.lemmas.Bool.{cases_lt, cases_order}
+use Rattle.std.proofs.lemmas.Bool.{cases_order}
 use Rattle.std.specs.List.{between}
 use Rattle.x12.specs.Lists.{nth}
-use Rattle.x12.specs.Segments.{Part, parts_of}
-use Rattle.x12.specs.Elements.{part_at, PartOf}
-use Rattle.x12.specs.Find.{Finds}
-use Rattle.x12.proofs.Splits.{found_at, last_at}
-
-next_part : (stop : ℕ) (q : Part) (qs ps : List Part) (k : ℕ) → ps ≡ q ∷ qs → 0 < k → part_at stop ps k ≡ part_at stop qs (k - 1)
-next_part stop q qs ps zero e lt = absurd (omega arith)
-next_part stop q qs ps (suc k) e lt = let z : k ≡ suc k - 1 = omega arith in ap (λ (l : List Part). part_at stop l (suc k)) e ∙ ap (part_at stop qs) z
-
-first_part : (stop : ℕ) (q : Part) (qs ps : List Part) (k : ℕ) → ps ≡ q ∷ qs → k ≡ 0 → part_at stop ps k ≡ q
-first_part stop q qs ps k e z = ap (part_at stop ps) z ∙ ap (λ (l : List Part). part_at stop l 0) e
-
-module _ (xs : List ℕ) (mark p stop : ℕ) where
-  -- the part behind the next mark, or none
-  pub part_behind : (at e k : ℕ) → Finds xs at mark e → e < length xs → 0 < k
-      → part_at stop (parts_of mark (p + at) (drop at xs)) k ≡ part_at stop (parts_of mark (p + (e + 1)) (drop (e + 1) xs)) (k - 1)
-  part_behind at e k h lt pos = next_part stop _ _ _ k (found_at xs mark p at e h lt) pos
-
-  pub no_part : (at e k : ℕ) → Finds xs at mark e → length xs ≤ e → 0 < k → part_at stop (parts_of mark (p + at) (drop at xs)) k ≡ (stop, [])
-  no_part at e k h le pos = next_part stop _ _ _ k (last_at xs mark p at e h le) pos
-
-  -- the part up to the next mark
-  pub part_here : (at e k : ℕ) → Finds xs at mark e → k ≡ 0 → part_at stop (parts_of mark (p + at) (drop at xs)) k ≡ (p + at, between at e xs)
-  part_here at e k h z =
-      elim (cases_lt e (length xs)) [
-        | inl lt ↦ first_part stop _ _ _ k (found_at xs mark p at e h lt) z
-        | inr le ↦ first_part stop _ _ _ k (last_at xs mark p at e h le) z
-      ]
-
-pub between_none : (xs : List ℕ) (r : ℕ) → between r r xs ≡ []
-between_none xs r = let e : r - r ≡ 0 = omega arith in ap (λ (n : ℕ). take n (drop r xs)) e
-
-pub between_some : (xs : List ℕ) (i j : ℕ) → i < j → j ≤ length xs → between i j xs ≡ [] → ⊥
-between_some xs i j lt le e = omega (arith, length-between xs i j le, ap length e)
+use Rattle.x12.specs.Elements.{PartOf}
 
 -- the segment with a number: the first of a list has the number 1
 pub nth_first : {A : Type 0} (x : A) (xs ys : List A) (k : ℕ) → ys ≡ x ∷ xs → k ≡ 1 → nth ys k ≡ Some x
@@ -67,9 +34,6 @@ nth_next x xs ys k n m e q (inr lt) other =
       | inr (inl less) ↦ (inr less, nth_later x xs ys (k - n) e (omega arith) ∙ (let z : k - n - 1 ≡ k - m = omega arith in ap (nth xs) z))
       | inr (inr more) ↦ absurd (omega arith)
     ]
-
-pub nth_none : {A : Type 0} (ys : List A) (k : ℕ) → ys ≡ [] → nth ys k ≡ None
-nth_none ys k e = ap (λ l. nth l k) e
 
 -- a part of a whole, and a part of that part
 pub part_of : (xs : List ℕ) (p at e : ℕ) → at ≤ e → e ≤ length xs → PartOf xs p (p + at) (between at e xs)

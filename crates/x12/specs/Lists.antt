@@ -1,7 +1,7 @@
 -- Words for lists, tests and checks that all definitions share.
 -- `cond`, `&&` and `||` compute all their arguments, so a branch that recurses is bound by a `let`, which waits.
 use Rattle.std.specs.List.{list_any}
-use Rattle.std.specs.Prelude.{◌≡◌, ℕ, zero, suc, Bool, true, false, ◌&&◌, ◌||◌, ◌⊎◌, List, [], ◌∷◌, Some, None, Ok, Err, Option, Result, nat_eq}
+use Rattle.std.specs.Prelude.{◌≡◌, ℕ, zero, suc, Bool, true, false, ◌&&◌, ◌⊎◌, List, [], ◌∷◌, Some, None, Ok, Err, Option, Result, nat_eq}
 
 -- each number below n passes the test
 abbrev pub below : (ℕ → Bool) → ℕ → Bool

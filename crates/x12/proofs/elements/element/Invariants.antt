@@ -1,4 +1,4 @@
-use Rattle.std.proofs.Common.{◌≡◌, ◌-◌, ◌≤◌, ◌<◌, ◌⊎◌}
+use Rattle.std.proofs.Common.{◌≡◌, ◌-◌, ◌<◌, ◌⊎◌}
 use Rattle.x12.specs.Lists.{nth}
 use Rattle.x12.specs.Segments.{segments_from, segments_of}
 use Rattle.x12.proofs.Walks.{On}

@@ -1,4 +1,4 @@
-use Rattle.std.proofs.Common.{sym, ◌∙◌, rules}
+use Rattle.std.proofs.Common.{sym, ◌∙◌}
 use Rattle.x12.proofs.Finds.{found, not_found}
 use Rattle.x12.proofs.find.find_from.Goals as goal
 

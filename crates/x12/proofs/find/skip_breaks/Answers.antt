@@ -1,4 +1,4 @@
-use Rattle.std.proofs.Common.{sym, ◌∙◌, rules}
+use Rattle.std.proofs.Common.{sym, ◌∙◌}
 use Rattle.x12.proofs.Finds.{passed, all_passed}
 use Rattle.x12.proofs.find.skip_breaks.Goals as goal
 

@@ -1,4 +1,4 @@
-use Rattle.std.proofs.Common.{◌+◌, ◌<◌, length, refl, ap, ◌∙◌, add-one, arith}
+use Rattle.std.proofs.Common.{◌<◌, length, refl, ap, ◌∙◌, add-one, arith}
 use Rattle.x12.specs.Comes.{parts_from}
 use Rattle.x12.proofs.Picks.{part_of}
 use Rattle.x12.proofs.Splits.{found_at, last_at}

@@ -1,5 +1,4 @@
-use Rattle.std.proofs.Common.{◌+◌, refl, ap, ◌∙◌, arith, add-one}
-use Rattle.x12.specs.declared.segments.Segments.{Segments}
+use Rattle.std.proofs.Common.{refl, ◌∙◌, arith, add-one}
 use Rattle.x12.proofs.Follows.{class_five, skip_at, none_at, first_from}
 use Rattle.x12.proofs.segments.SegmentsIterator.next.Goals as goal
 
