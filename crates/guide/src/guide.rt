@@ -3,7 +3,7 @@ ghost use Rattle.guide.specs.Meaning.{Meaning};
 ghost use Rattle.guide.specs.Asked.{row_of, fits_row, rule_of, is_code, pairs_in, paired_to};
 ghost use Rattle.guide.specs.Law.{Lawful};
 
-use crate::rules::{Kind, Row, Rule};
+use crate::rules::{Kind, Mark, Row, Rule};
 
 // A guide: a value with a meaning that keeps the law. Asked for an item of its meaning it answers that, or none where there is none.
 // Rows are numbered from 1 in order, and so are elements.
@@ -16,9 +16,9 @@ pub trait Guide {
     fn row(&self, n: u8) -> Option<Row>
         ensures { result ≡ row_of (meaning self.now) n };
 
-    // Whether the row takes a segment with this name and this first element.
-    fn fits(&self, n: u8, name: &[u8], first: &[u8]) -> bool
-        ensures { result ≡ fits_row (meaning self.now) n name.now first.now };
+    // Whether the row takes a segment with this mark.
+    fn fits(&self, n: u8, mark: Mark<'_>) -> bool
+        ensures { result ≡ fits_row (meaning self.now) n mark.entry.name.now mark.entry.first.now };
 
     // The rule of an element of the row; an element that has none is unused.
     fn rule(&self, n: u8, element: u8) -> Option<Rule>
@@ -67,8 +67,8 @@ impl<'g, G: Guide> Guide for &'g G {
         G::row(*self, n)
     }
 
-    fn fits(&self, n: u8, name: &[u8], first: &[u8]) -> bool {
-        G::fits(*self, n, name, first)
+    fn fits(&self, n: u8, mark: Mark<'_>) -> bool {
+        G::fits(*self, n, mark)
     }
 
     fn rule(&self, n: u8, element: u8) -> Option<Rule> {

@@ -1,15 +1,11 @@
 ghost use Rattle.guide.specs.Judged.{EveryListIsJudged, LawfulRows};
 
 // The rows of a lawful guide keep what the theory of derivations asks of a set.
-pub fn lawful_guides_have_lawful_rows() -> u8
+pub fn lawful_guides_have_lawful_rows()
     ensures { LawfulRows }
-{
-    0
-}
+{}
 
 // Under every lawful guide every list of marks has exactly one derivation, or a first mark that does not fit, or only begins a derivation.
-pub fn lawful_guides_judge_every_list() -> u8
+pub fn lawful_guides_judge_every_list()
     ensures { EveryListIsJudged }
-{
-    0
-}
+{}

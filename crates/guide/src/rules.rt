@@ -1,7 +1,9 @@
+ghost use Rattle.std.specs.Prelude.{◌≡◌};
+
 use value::forms::Form;
 
 // Whether an element has to be filled, may be, or must not be.
-#[derive(Clone, Copy)]
+#[derive(Clone, Copy, Debug, PartialEq, Eq)]
 pub enum Need {
     Must,
     May,
@@ -9,17 +11,43 @@ pub enum Need {
 }
 
 // The rule of an element: whether it is needed, its type, its least and its greatest length.
-#[derive(Clone, Copy)]
+#[derive(Clone, Copy, Debug, PartialEq, Eq)]
 pub struct Rule {
     pub need: Need,
     pub form: Form,
-    pub least: u32,
-    pub greatest: u32,
+    pub least: usize,
+    pub greatest: usize,
+}
+
+impl Rule {
+    // The rule of an element that has to be filled.
+    pub fn must(form: Form, least: usize, greatest: usize) -> Rule
+        ensures { result ≡ record { need = Need.Must; form = form; least = least; greatest = greatest } }
+    {
+        Rule {
+            need: Need::Must,
+            form,
+            least,
+            greatest,
+        }
+    }
+
+    // The rule of an element that may be filled.
+    pub fn may(form: Form, least: usize, greatest: usize) -> Rule
+        ensures { result ≡ record { need = Need.May; form = form; least = least; greatest = greatest } }
+    {
+        Rule {
+            need: Need::May,
+            form,
+            least,
+            greatest,
+        }
+    }
 }
 
 // A row of a guide: in how many loops it stands, how many rows the loop has that it opens (none: it opens no loop), its least and its
 // greatest use, the greatest number of an element that a rule or a pair rule names, and whether it has pair rules.
-#[derive(Clone, Copy)]
+#[derive(Clone, Copy, Debug, PartialEq, Eq)]
 pub struct Row {
     pub depth: u8,
     pub inner: u8,
@@ -29,8 +57,15 @@ pub struct Row {
     pub paired: bool,
 }
 
-// What the first two elements of BAK make of a set.
+// What a segment is known by: its name and its first element, empty where it is absent.
 #[derive(Clone, Copy)]
+pub struct Mark<'a> {
+    pub name: &'a [u8],
+    pub first: &'a [u8],
+}
+
+// What the first two elements of BAK make of a set.
+#[derive(Clone, Copy, Debug, PartialEq, Eq)]
 pub enum Kind {
     Original,
     FollowUp,

@@ -2,179 +2,149 @@
 //! PO1 stands in a loop and need not be used, ACK stands in four loops, two REF follow one another that no code tells apart, a loop has to be used
 //! twice, there is no CTT, and PO106 and PO107 are unused.
 ghost use Rattle.std.specs.Prelude.{◌≡◌};
-ghost use Rattle.guides.specs.Tables.{rule_in, code_in};
-ghost use Rattle.guides.specs.GuideOdd.{guide_odd_meaning, st_row, bak_row, first_ref_row, second_ref_row, hl_row, po1_row, lin_row, sln_row, ack_row, se_row};
+ghost use Rattle.guides.specs.GuideOdd.{guide_odd_meaning};
 ghost use Rattle.guides.specs.Kept.{guide_odd_lawful};
 
-use crate::tables::{is_either, is_just, may, must, named, placed_by_either, used};
+use crate::tables::{self, Element, Line, ONCE, Tabled, element, may, must};
 use guide::guide::Guide;
-use guide::rules::{Kind, Need, Row, Rule};
+use guide::rules::{Kind, Mark, Need, Row, Rule};
 use value::forms::Form;
-use value::texts::same_bytes;
 
 // The odd guide, for tests only.
 #[derive(Clone, Copy)]
 pub struct GuideOdd;
 
-// Row 1, ST: the rules.
-fn st_rule(element: u8) -> Option<Rule>
-    ensures { result ≡ rule_in st_row element }
-{
-    match element {
-        1 => must(Form::Id, 3, 3),
-        2 => must(Form::An, 2, 6),
-        _ => None,
-    }
-}
+// The rows in order.
+const LINES: &[Line] = &[
+    // Row 1, ST: once.
+    Line {
+        row: ONCE,
+        name: b"ST",
+        placing: &[],
+        elements: &[must!(1, Id, 3, 3, &[b"855"]), must!(2, An, 2, 6)],
+        pairs: &[],
+    },
+    // Row 2, BAK: once.
+    Line {
+        row: Row {
+            elements: 3,
+            ..ONCE
+        },
+        name: b"BAK",
+        placing: &[],
+        elements: &[must!(1, Id, 2, 2), must!(2, Id, 2, 2), must!(3, An, 1, 10)],
+        pairs: &[],
+    },
+    // Row 3, REF: once. Row 4, another REF that no code tells apart from the first: once.
+    Line {
+        row: ONCE,
+        name: b"REF",
+        placing: &[],
+        elements: &[must!(1, Id, 2, 3), must!(2, An, 1, 30)],
+        pairs: &[],
+    },
+    Line {
+        row: Row {
+            elements: 3,
+            ..ONCE
+        },
+        name: b"REF",
+        placing: &[],
+        elements: &[must!(1, Id, 2, 2, &[b"ZZ"]), may!(3, An, 1, 80)],
+        pairs: &[],
+    },
+    // Row 5, HL placed by 1 or by 22: 1 to 20 times. It opens the loop that PO1 stands in.
+    Line {
+        row: Row {
+            inner: 4,
+            greatest: 20,
+            ..ONCE
+        },
+        name: b"HL",
+        placing: &[b"1", b"22"],
+        elements: &[must!(1, Id, 1, 2, &[b"1", b"22"]), may!(2, An, 1, 12)],
+        pairs: &[],
+    },
+    // Row 6, PO1, a line of the order, in the HL loop: at most 50 times. It opens a loop. PO106 has a rule by which it is unused, PO107 has none.
+    Line {
+        row: Row {
+            depth: 1,
+            inner: 3,
+            least: 0,
+            greatest: 50,
+            elements: 6,
+            ..ONCE
+        },
+        name: b"PO1",
+        placing: &[],
+        elements: &[
+            must!(1, An, 1, 6),
+            must!(2, Q, 1, 5),
+            must!(3, Id, 1, 2),
+            element!(Unused, 6, R, 3, 4, &[]),
+        ],
+        pairs: &[],
+    },
+    // Row 7, LIN, in the PO1 loop: at most 10 times. It opens a loop. If element 2 is filled, so is element 3, and not the other way round.
+    Line {
+        row: Row {
+            depth: 2,
+            inner: 2,
+            least: 0,
+            greatest: 10,
+            elements: 3,
+            paired: true,
+            ..ONCE
+        },
+        name: b"LIN",
+        placing: &[],
+        elements: &[may!(2, Id, 2, 2, &[b"EN", b"UP"]), may!(3, An, 1, 48)],
+        pairs: &[(2, 3)],
+    },
+    // Row 8, SLN, in the LIN loop: 2 to 5 times. It opens a loop. If element 1 is filled, so is element 4, which has no rule: each is at fault.
+    Line {
+        row: Row {
+            depth: 3,
+            inner: 1,
+            least: 2,
+            greatest: 5,
+            elements: 4,
+            paired: true,
+            ..ONCE
+        },
+        name: b"SLN",
+        placing: &[],
+        elements: &[may!(1, An, 1, 20), may!(3, R, 1, 4)],
+        pairs: &[(1, 4)],
+    },
+    // Row 9, ACK, in the SLN loop: at most 3 times. So it stands in four loops, and two of them lie between it and the PO1 loop.
+    Line {
+        row: Row {
+            depth: 4,
+            least: 0,
+            greatest: 3,
+            ..ONCE
+        },
+        name: b"ACK",
+        placing: &[],
+        elements: &[may!(1, Id, 1, 2), must!(2, Q, 1, 9)],
+        pairs: &[],
+    },
+    // Row 10, SE: once.
+    Line {
+        row: ONCE,
+        name: b"SE",
+        placing: &[],
+        elements: &[must!(1, N0, 1, 10), must!(2, An, 2, 6)],
+        pairs: &[],
+    },
+];
 
-// Row 1, ST: the codes.
-fn st_code(element: u8, value: &[u8]) -> bool
-    ensures { result ≡ code_in st_row element value.now }
-{
-    match element {
-        1 => is_just(value, b"855"),
-        2 => true,
-        _ => false,
-    }
-}
+impl Tabled for GuideOdd {
+    ghost meaning = { λ _. guide_odd_meaning };
 
-// Row 2, BAK: the rules.
-fn bak_rule(element: u8) -> Option<Rule>
-    ensures { result ≡ rule_in bak_row element }
-{
-    match element {
-        1 => must(Form::Id, 2, 2),
-        2 => must(Form::Id, 2, 2),
-        3 => must(Form::An, 1, 10),
-        _ => None,
-    }
-}
-
-// Row 3, the first REF: the rules.
-fn first_ref_rule(element: u8) -> Option<Rule>
-    ensures { result ≡ rule_in first_ref_row element }
-{
-    match element {
-        1 => must(Form::Id, 2, 3),
-        2 => must(Form::An, 1, 30),
-        _ => None,
-    }
-}
-
-// Row 4, the second REF: the rules.
-fn second_ref_rule(element: u8) -> Option<Rule>
-    ensures { result ≡ rule_in second_ref_row element }
-{
-    match element {
-        1 => must(Form::Id, 2, 2),
-        3 => may(Form::An, 1, 80),
-        _ => None,
-    }
-}
-
-// Row 4, the second REF: the codes.
-fn second_ref_code(element: u8, value: &[u8]) -> bool
-    ensures { result ≡ code_in second_ref_row element value.now }
-{
-    match element {
-        1 => is_just(value, b"ZZ"),
-        3 => true,
-        _ => false,
-    }
-}
-
-// Row 5, HL: the rules.
-fn hl_rule(element: u8) -> Option<Rule>
-    ensures { result ≡ rule_in hl_row element }
-{
-    match element {
-        1 => must(Form::Id, 1, 2),
-        2 => may(Form::An, 1, 12),
-        _ => None,
-    }
-}
-
-// Row 5, HL: the codes.
-fn hl_code(element: u8, value: &[u8]) -> bool
-    ensures { result ≡ code_in hl_row element value.now }
-{
-    match element {
-        1 => is_either(value, b"1", b"22"),
-        2 => true,
-        _ => false,
-    }
-}
-
-// Row 6, PO1: the rules.
-fn po1_rule(element: u8) -> Option<Rule>
-    ensures { result ≡ rule_in po1_row element }
-{
-    match element {
-        1 => must(Form::An, 1, 6),
-        2 => must(Form::Q, 1, 5),
-        3 => must(Form::Id, 1, 2),
-        6 => Some(Rule {
-            need: Need::Unused,
-            form: Form::R,
-            least: 3,
-            greatest: 4,
-        }),
-        _ => None,
-    }
-}
-
-// Row 7, LIN: the rules.
-fn lin_rule(element: u8) -> Option<Rule>
-    ensures { result ≡ rule_in lin_row element }
-{
-    match element {
-        2 => may(Form::Id, 2, 2),
-        3 => may(Form::An, 1, 48),
-        _ => None,
-    }
-}
-
-// Row 7, LIN: the codes.
-fn lin_code(element: u8, value: &[u8]) -> bool
-    ensures { result ≡ code_in lin_row element value.now }
-{
-    match element {
-        2 => is_either(value, b"EN", b"UP"),
-        3 => true,
-        _ => false,
-    }
-}
-
-// Row 8, SLN: the rules.
-fn sln_rule(element: u8) -> Option<Rule>
-    ensures { result ≡ rule_in sln_row element }
-{
-    match element {
-        1 => may(Form::An, 1, 20),
-        3 => may(Form::R, 1, 4),
-        _ => None,
-    }
-}
-
-// Row 9, ACK: the rules.
-fn ack_rule(element: u8) -> Option<Rule>
-    ensures { result ≡ rule_in ack_row element }
-{
-    match element {
-        1 => may(Form::Id, 1, 2),
-        2 => must(Form::Q, 1, 9),
-        _ => None,
-    }
-}
-
-// Row 10, SE: the rules.
-fn se_rule(element: u8) -> Option<Rule>
-    ensures { result ≡ rule_in se_row element }
-{
-    match element {
-        1 => must(Form::N0, 1, 10),
-        2 => must(Form::An, 2, 6),
-        _ => None,
+    fn lines(&self) -> &'static [Line] {
+        LINES
     }
 }
 
@@ -184,109 +154,41 @@ impl Guide for GuideOdd {
     ghost lawful = { λ _. guide_odd_lawful };
 
     fn row(&self, n: u8) -> Option<Row> {
-        match n {
-            1 => Some(used(1, 1, 2)),
-            2 => Some(used(1, 1, 3)),
-            3 => Some(used(1, 1, 2)),
-            4 => Some(used(1, 1, 3)),
-            5 => Some(Row {
-                inner: 4,
-                ..used(1, 20, 2)
-            }),
-            6 => Some(Row {
-                depth: 1,
-                inner: 3,
-                ..used(0, 50, 6)
-            }),
-            7 => Some(Row {
-                depth: 2,
-                inner: 2,
-                paired: true,
-                ..used(0, 10, 3)
-            }),
-            8 => Some(Row {
-                depth: 3,
-                inner: 1,
-                paired: true,
-                ..used(2, 5, 4)
-            }),
-            9 => Some(Row {
-                depth: 4,
-                ..used(0, 3, 2)
-            }),
-            10 => Some(used(1, 1, 2)),
-            _ => None,
-        }
+        tables::row(self, n)
     }
 
-    fn fits(&self, n: u8, name: &[u8], first: &[u8]) -> bool {
-        match n {
-            1 => named(name, b"ST"),
-            2 => named(name, b"BAK"),
-            3 | 4 => named(name, b"REF"),
-            5 => placed_by_either(name, b"HL", first, b"1", b"22"),
-            6 => named(name, b"PO1"),
-            7 => named(name, b"LIN"),
-            8 => named(name, b"SLN"),
-            9 => named(name, b"ACK"),
-            10 => named(name, b"SE"),
-            _ => false,
-        }
+    fn fits(&self, n: u8, mark: Mark<'_>) -> bool {
+        tables::fits(self, n, mark)
     }
 
     fn rule(&self, n: u8, element: u8) -> Option<Rule> {
-        match n {
-            1 => st_rule(element),
-            2 => bak_rule(element),
-            3 => first_ref_rule(element),
-            4 => second_ref_rule(element),
-            5 => hl_rule(element),
-            6 => po1_rule(element),
-            7 => lin_rule(element),
-            8 => sln_rule(element),
-            9 => ack_rule(element),
-            10 => se_rule(element),
-            _ => None,
-        }
+        tables::rule(self, n, element)
     }
 
     fn is_code(&self, n: u8, element: u8, value: &[u8]) -> bool {
-        match n {
-            1 => st_code(element, value),
-            2 => matches!(element, 1 | 2 | 3),
-            4 => second_ref_code(element, value),
-            5 => hl_code(element, value),
-            6 => matches!(element, 1 | 2 | 3 | 6),
-            7 => lin_code(element, value),
-            8 => matches!(element, 1 | 3),
-            3 | 9 | 10 => matches!(element, 1 | 2),
-            _ => false,
-        }
+        tables::is_code(self, n, element, value)
     }
 
     fn pairs(&self, n: u8, a: u8, b: u8) -> bool {
-        matches!((n, a, b), (7, 2, 3) | (8, 1, 4))
+        tables::pairs(self, n, a, b)
     }
 
     fn paired(&self, n: u8, b: u8) -> bool {
-        matches!((n, b), (7, 3) | (8, 4))
+        tables::paired(self, n, b)
     }
 
     fn kind(&self, first: &[u8], second: &[u8]) -> Kind {
-        if same_bytes(first, b"07") {
-            Kind::FollowUp
-        } else {
-            Kind::Original
+        match first {
+            b"07" => Kind::FollowUp,
+            _ => Kind::Original,
         }
     }
 
     fn needed(&self, second: &[u8]) -> Option<u8> {
-        if same_bytes(second, b"AK") {
-            Some(9)
-        } else if same_bytes(second, b"RJ") {
-            Some(40)
-        } else {
-            None
+        match second {
+            b"AK" => Some(9),
+            b"RJ" => Some(40),
+            _ => None,
         }
     }
 

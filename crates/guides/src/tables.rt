@@ -1,87 +1,192 @@
-ghost use Rattle.std.specs.Prelude.{◌≡◌, true, false, ◌&&◌, [], ◌∷◌, Some};
+//! Guides as tables of rows, and how a table answers what a judge asks of a guide.
+ghost use Rattle.std.specs.Prelude.{◌≡◌, ◌==◌, ◌&&◌, ◌||◌, nat_eq, length, option_copied};
+ghost use Rattle.std.specs.List.{list_any, find};
 ghost use Rattle.std.specs.Str.{bytes_eq};
-ghost use Rattle.guide.specs.declared.rules.Need.TheVariants.{Must, May};
-ghost use Rattle.guide.specs.Asked.{is_among};
+ghost use Rattle.x12.specs.Lists.{nth};
+ghost use Rattle.guide.specs.Meaning.{Meaning};
+ghost use Rattle.guide.specs.Asked.{admits, element_at, fits_row, is_code, matches, over, paired_to, pairs_in, row_at, row_of, rule_of};
+ghost use Rattle.guides.specs.Rows.{texts, element_meant, row_meant, standing_meant, Means};
 
-use guide::rules::{Need, Row, Rule};
-use value::forms::Form;
-use value::texts::same_bytes;
+use guide::rules::{Mark, Row, Rule};
 
-// The rule of an element that has to be filled.
-pub(crate) fn must(form: Form, least: u32, greatest: u32) -> Option<Rule>
-    ensures { result ≡ Some (record { need = Must; form = form; least = least; greatest = greatest }) }
-{
-    Some(Rule {
-        need: Need::Must,
-        form,
-        least,
-        greatest,
-    })
+// An element of a row: its number, its rule, and the codes that it is held to (none: any value does).
+pub(crate) struct Element {
+    pub(crate) number: u8,
+    pub(crate) rule: Rule,
+    pub(crate) codes: &'static [&'static [u8]],
 }
 
-// The rule of an element that may be filled.
-pub(crate) fn may(form: Form, least: u32, greatest: u32) -> Option<Rule>
-    ensures { result ≡ Some (record { need = May; form = form; least = least; greatest = greatest }) }
-{
-    Some(Rule {
-        need: Need::May,
-        form,
-        least,
-        greatest,
-    })
+// A row: as it is told, the name of its segments, the codes that place a segment here (none: any first element does), its elements that have a
+// rule, and its pair rules.
+pub(crate) struct Line {
+    pub(crate) row: Row,
+    pub(crate) name: &'static [u8],
+    pub(crate) placing: &'static [&'static [u8]],
+    pub(crate) elements: &'static [Element],
+    pub(crate) pairs: &'static [(u8, u8)],
 }
 
-// A row that stands in no loop, opens none and has no pair rules, by its least and its greatest use and the last element that it has a rule for.
-pub(crate) fn used(least: u32, greatest: u32, elements: u8) -> Row
-    ensures { result ≡ record { depth = 0; inner = 0; least = least; greatest = greatest; elements = elements; paired = false } }
+// A guide whose rows stand in a table.
+pub(crate) trait Tabled {
+    ghost meaning: { Self → Meaning };
+
+    // The rows in order.
+    fn lines(&self) -> &'static [Line]
+        ensures { Means result.now (meaning self.now) };
+}
+
+// Whether the value is one of the codes.
+fn is_among(codes: &[&[u8]], value: &[u8]) -> bool
+    ensures { result ≡ list_any (λ c. bytes_eq value.now c.now) codes.now }
 {
-    Row {
-        depth: 0,
-        inner: 0,
-        least,
-        greatest,
-        elements,
-        paired: false,
+    codes.contains(&value)
+}
+
+// Whether the value is one of the codes, or there are none.
+fn is_admitted(codes: &[&[u8]], value: &[u8]) -> bool
+    ensures { result ≡ admits (texts codes.now) value.now }
+{
+    codes.is_empty() || is_among(codes, value)
+}
+
+impl Line {
+    fn fits(&self, mark: Mark<'_>) -> bool
+        ensures { result ≡ matches (row_meant self.now) mark.entry.name.now mark.entry.first.now }
+    {
+        mark.name == self.name && is_admitted(self.placing, mark.first)
+    }
+
+    fn element(&self, number: u8) -> Option<&'static Element>
+        ensures { option_copied result ≡ find (λ e. number == e.number) self.now.elements.now }
+    {
+        self.elements
+            .iter()
+            .find(|element| element.number == number)
+    }
+
+    fn pairs(&self, a: u8, b: u8) -> bool
+        ensures { result ≡ list_any (λ p. (a == p.0) && b == p.1) self.now.pairs.now }
+    {
+        self.pairs.iter().any(|pair| pair.0 == a && pair.1 == b)
+    }
+
+    fn is_paired(&self, b: u8) -> bool
+        ensures { result ≡ list_any (λ p. nat_eq b p.1) self.now.pairs.now }
+    {
+        self.pairs.iter().any(|pair| pair.1 == b)
     }
 }
 
-// Whether a row that is placed by no code takes a segment with this name: whatever its first element is.
-pub(crate) fn named(name: &[u8], wanted: &[u8]) -> bool
-    ensures { result ≡ (bytes_eq name.now wanted.now && true) }
+// The line with this number, counted from 1.
+fn line_in(lines: &'static [Line], n: u8) -> Option<&'static Line>
+    ensures { option_copied result ≡ nth lines.now n }
 {
-    same_bytes(name, wanted)
+    match n {
+        0 => None,
+        _ => lines.get(usize::from(n) - 1),
+    }
 }
 
-// Whether a row that is placed by one code takes a segment with this name and this first element.
-pub(crate) fn placed(name: &[u8], wanted: &[u8], first: &[u8], code: &[u8]) -> bool
-    ensures { result ≡ (bytes_eq name.now wanted.now && is_among first.now (code.now ∷ [])) }
+// The row with this number.
+fn line_at<T: Tabled>(guide: &T, n: u8) -> Option<&'static Line>
+    ensures told { over (λ l. l.now.row) result ≡ row_of (T.meaning guide.now) n }
+    ensures stands { over (λ l. standing_meant l.now) result ≡ row_at (T.meaning guide.now) n }
 {
-    same_bytes(name, wanted) && same_bytes(first, code)
+    line_in(guide.lines(), n)
 }
 
-// The same of a row that is placed by two codes.
-pub(crate) fn placed_by_either(
-    name: &[u8],
-    wanted: &[u8],
-    first: &[u8],
-    one: &[u8],
-    other: &[u8],
-) -> bool
-    ensures { result ≡ (bytes_eq name.now wanted.now && is_among first.now (one.now ∷ other.now ∷ [])) }
+pub(crate) fn row<T: Tabled>(guide: &T, n: u8) -> Option<Row>
+    ensures { result ≡ row_of (T.meaning guide.now) n }
 {
-    same_bytes(name, wanted) && is_either(first, one, other)
+    line_at(guide, n).map(|line| line.row)
 }
 
-// Whether the value is the code of a list that has one.
-pub(crate) fn is_just(value: &[u8], code: &[u8]) -> bool
-    ensures { result ≡ is_among value.now (code.now ∷ []) }
+pub(crate) fn fits<T: Tabled>(guide: &T, n: u8, mark: Mark<'_>) -> bool
+    ensures { result ≡ fits_row (T.meaning guide.now) n mark.entry.name.now mark.entry.first.now }
 {
-    same_bytes(value, code)
+    match line_at(guide, n) {
+        Some(line) => line.fits(mark),
+        None => false,
+    }
 }
 
-// Whether the value is a code of a list that has two.
-pub(crate) fn is_either(value: &[u8], one: &[u8], other: &[u8]) -> bool
-    ensures { result ≡ is_among value.now (one.now ∷ other.now ∷ []) }
+// The element of the row that has a rule.
+fn element_at<T: Tabled>(guide: &T, n: u8, number: u8) -> Option<&'static Element>
+    ensures { over (λ e. element_meant e.now) result ≡ element_at (T.meaning guide.now) n number }
 {
-    same_bytes(value, one) || same_bytes(value, other)
+    line_at(guide, n)?.element(number)
 }
+
+pub(crate) fn rule<T: Tabled>(guide: &T, n: u8, number: u8) -> Option<Rule>
+    ensures { result ≡ rule_of (T.meaning guide.now) n number }
+{
+    element_at(guide, n, number).map(|element| element.rule)
+}
+
+pub(crate) fn is_code<T: Tabled>(guide: &T, n: u8, number: u8, value: &[u8]) -> bool
+    ensures { result ≡ is_code (T.meaning guide.now) n number value.now }
+{
+    element_at(guide, n, number).is_some_and(|element| is_admitted(element.codes, value))
+}
+
+pub(crate) fn pairs<T: Tabled>(guide: &T, n: u8, a: u8, b: u8) -> bool
+    ensures { result ≡ pairs_in (T.meaning guide.now) n a b }
+{
+    line_at(guide, n).is_some_and(|line| line.pairs(a, b))
+}
+
+pub(crate) fn paired<T: Tabled>(guide: &T, n: u8, b: u8) -> bool
+    ensures { result ≡ paired_to (T.meaning guide.now) n b }
+{
+    line_at(guide, n).is_some_and(|line| line.is_paired(b))
+}
+
+// A row that stands in no loop, opens none, is used once and has rules for two elements.
+pub(crate) const ONCE: Row = Row {
+    depth: 0,
+    inner: 0,
+    least: 1,
+    greatest: 1,
+    elements: 2,
+    paired: false,
+};
+
+// An element in a table, by its number, type, least and greatest length, and its codes if there are any.
+macro_rules! element {
+    ($need:ident, $number:expr, $form:ident, $least:expr, $greatest:expr, $codes:expr) => {
+        Element {
+            number: $number,
+            rule: Rule {
+                need: Need::$need,
+                form: Form::$form,
+                least: $least,
+                greatest: $greatest,
+            },
+            codes: $codes,
+        }
+    };
+}
+
+// One that has to be filled.
+macro_rules! must {
+    ($number:expr, $form:ident, $least:expr, $greatest:expr) => {
+        element!(Must, $number, $form, $least, $greatest, &[])
+    };
+    ($number:expr, $form:ident, $least:expr, $greatest:expr, $codes:expr) => {
+        element!(Must, $number, $form, $least, $greatest, $codes)
+    };
+}
+
+// One that may be filled.
+macro_rules! may {
+    ($number:expr, $form:ident, $least:expr, $greatest:expr) => {
+        element!(May, $number, $form, $least, $greatest, &[])
+    };
+    ($number:expr, $form:ident, $least:expr, $greatest:expr, $codes:expr) => {
+        element!(May, $number, $form, $least, $greatest, $codes)
+    };
+}
+
+pub(crate) use element;
+pub(crate) use may;
+pub(crate) use must;
