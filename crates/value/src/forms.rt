@@ -1,5 +1,5 @@
 // The form of a value: the eight types of elements, and two more that only the envelope has.
-#[derive(Clone, Copy)]
+#[derive(Clone, Copy, Debug, PartialEq, Eq)]
 pub enum Form {
     // A whole number: digits only.
     N0,
