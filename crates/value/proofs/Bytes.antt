@@ -1,12 +1,12 @@
 -- What the tests of single bytes, of each byte and of some byte decide.
-use Rattle.std.proofs.Common.{◌≡◌, ℕ, zero, suc, ◌≤◌, Bool, true, false, not, ◌&&◌, ◌||◌, leb, ◌⊎◌, List, [], ◌∷◌, get_or, Decides, sym, refl, ◌∙◌, subst, inl, inr, arith}
+use Rattle.std.proofs.Common.{◌≡◌, ℕ, zero, suc, ◌≤◌, Bool, cond, ◌&&◌, ◌||◌, leb, ◌⊎◌, List, get_or, Decides, sym, refl, ◌∙◌, subst, inl, inr, arith}
 use Rattle.std.proofs.lemmas.List.{get_or_default}
+use Rattle.std.proofs.lemmas.List.Recursion.{same_from_clauses, is_sum_by}
 use Rattle.std.proofs.lemmas.Bool.{leb-true, le-leb}
 use Rattle.std.proofs.lemmas.Bool.Decides.{Decides-eqb, Decides-and, Decides-like, Decides-by_or}
 use Rattle.std.proofs.ByRecursion.{Decides-by_and}
-use Rattle.std.specs.List.{AllByRecursion}
+use Rattle.std.specs.List.{AllByRecursion, list_all, list_any, count_by}
 use Rattle.x12.specs.Class.{within, class_of}
-use Rattle.std.specs.List.{list_all, list_any}
 use Rattle.value.specs.Digits.{is_digit, digits}
 use Rattle.value.specs.Texts.{code_byte, text_byte, is_space}
 use Rattle.value.specs.Means.{Stands, Digit}
@@ -50,12 +50,3 @@ digits_decides v = every_decides is_digit Digit digit_decides v
 pub some_decides : (f : ℕ → Bool) (P : ℕ → Type 0) → ((b : ℕ) → Decides (f b) (P b)) → (v : List ℕ) → Decides (list_any f v) ((k b : ℕ) × Stands v k b × P b)
 some_decides f P each v =
     Decides-like (list_any f v) (λ h. (h.0, get_or v h.0 0, (h.1, refl), h.2 0)) (λ h. (h.0, h.2.0, λ d. subst P (sym (get_or_default v h.0 d 0 h.2.0 ∙ h.2.1)) h.3)) (Decides-by_or f P (list_any f) each refl (λ _ _. refl) v)
-
--- some byte fails a test unless each passes it
-pub some_fails : (f : ℕ → Bool) (v : List ℕ) → list_any (λ b. not (f b)) v ≡ not (list_all f v)
-some_fails f [] = refl
-some_fails f (b ∷ v) = de_morgan (f b) _ _ (some_fails f v)
-  where
-    de_morgan : (x s e : Bool) → s ≡ not e → (not x || s) ≡ not (x && e)
-    de_morgan true s e h = h
-    de_morgan false s e h = refl

@@ -3,4 +3,3 @@ pub mod Calendar
 pub mod Meaning
 pub mod Numbers
 pub mod Signs
-pub mod Turns

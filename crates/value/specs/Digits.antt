@@ -1,5 +1,5 @@
 -- Digits, and the number that they write.
-use Rattle.std.specs.Prelude.{ℕ, ◌+◌, ◌-◌, ◌*◌, Bool, cond, ◌&&◌, List, [], ◌∷◌, length}
+use Rattle.std.specs.Prelude.{ℕ, ◌+◌, ◌-◌, ◌*◌, Bool, ◌&&◌, List, [], ◌∷◌, length}
 use Rattle.x12.specs.Class.{within}
 use Rattle.std.specs.List.{list_all}
 
@@ -10,11 +10,6 @@ is_digit b = within 48 57 b
 -- each byte is a digit
 abbrev pub digits : List ℕ → Bool
 digits v = list_all is_digit v
-
--- how many numbers of the list pass the test
-abbrev pub count : (ℕ → Bool) → List ℕ → ℕ
-count f [] = 0
-count f (x ∷ xs) = let more = count f xs in cond (f x) 1 0 + more
 
 -- the number that digits write, where n stands before them
 abbrev pub number_from : ℕ → List ℕ → ℕ

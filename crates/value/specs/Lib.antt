@@ -2,6 +2,5 @@ pub mod Digits
 pub mod Decimals
 pub mod Dates
 pub mod Texts
-pub mod Sets
 pub mod Types
 pub mod Means

@@ -1,9 +1,9 @@
 -- The types of elements and their lengths, as tests that compute.
-use Rattle.std.specs.Prelude.{ℕ, Bool, true, List, length, ◌==◌}
+use Rattle.std.specs.Prelude.{ℕ, Bool, true, List, length, ◌==◌, count_by}
 use Rattle.x12.specs.Class.{within}
 use Rattle.value.specs.declared.forms.Form.{Form}
 use Rattle.value.specs.declared.forms.Form.TheVariants.{N0, Q, Id, An, R, D8, D6, Tm, Spaces, Free}
-use Rattle.value.specs.Digits.{is_digit, digits, count}
+use Rattle.value.specs.Digits.{is_digit, digits}
 use Rattle.value.specs.Decimals.{decimal}
 use Rattle.value.specs.Dates.{day8, day6, time}
 use Rattle.value.specs.Texts.{code, text, spaces}
@@ -28,7 +28,7 @@ good_length N0 least greatest v = within least greatest (length v)
 good_length Q least greatest v = within least greatest (length v)
 good_length Id least greatest v = within least greatest (length v)
 good_length An least greatest v = within least greatest (length v)
-good_length R least greatest v = within least greatest (count is_digit v)
+good_length R least greatest v = within least greatest (count_by is_digit v)
 good_length D8 least greatest v = length v == 8
 good_length D6 least greatest v = length v == 6
 good_length Tm least greatest v = length v == 4

@@ -1,26 +1,18 @@
-ghost use Rattle.std.specs.Prelude.{◌≡◌, true, false, MatchOption};
-ghost use Rattle.value.specs.Digits.{is_digit, digits, count, number_of, numeral};
-
-use crate::sets::ByteSet;
+ghost use Rattle.std.specs.Prelude.{◌≡◌, true, false, count_by, MatchOption};
+ghost use Rattle.value.specs.Digits.{is_digit, digits, number_of, numeral};
 
 // Whether each byte is a digit.
 pub fn is_digits(v: &[u8]) -> bool
     ensures { result ≡ digits v.now }
 {
-    ByteSet::Digits.has_all(v)
+    v.iter().all(|b| b.is_ascii_digit())
 }
 
 // How many bytes are digits, whatever the others are.
 pub fn digit_count(v: &[u8]) -> usize
-    ensures { result ≡ count is_digit v.now }
+    ensures { result ≡ count_by is_digit v.now }
 {
-    let mut found = 0;
-    for b in v {
-        if ByteSet::Digits.has(*b) {
-            found += 1;
-        }
-    }
-    found
+    v.iter().filter(|b| b.is_ascii_digit()).count()
 }
 
 // The number that 1 to 19 digits write; none for any other bytes.
@@ -34,7 +26,7 @@ pub fn number(v: &[u8]) -> Option<u64>
     }
     let mut value = 0;
     for b in v {
-        if !ByteSet::Digits.has(*b) {
+        if !b.is_ascii_digit() {
             return None;
         }
         value = 10 * value + u64::from(*b - b'0');

@@ -6,6 +6,5 @@ pub mod decimals;
 pub mod digits;
 pub mod forms;
 pub mod laws;
-mod sets;
 pub mod texts;
 pub mod types;

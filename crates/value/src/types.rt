@@ -1,5 +1,4 @@
 ghost use Rattle.std.specs.Prelude.{◌≡◌};
-ghost use Rattle.x12.specs.Class.{within};
 ghost use Rattle.value.specs.Types.{good_type, good_length};
 
 use crate::dates::{is_day6, is_day8, is_time};
@@ -25,32 +24,16 @@ pub fn has_type(form: Form, v: &[u8]) -> bool
     }
 }
 
-// Whether a length lies from the least to the greatest.
-fn is_within(least: usize, greatest: usize, len: usize) -> bool
-    ensures { result ≡ within least greatest len }
-{
-    least <= len && len <= greatest
-}
-
 // Whether the value has a length that the form allows: from the least to the greatest, where of a decimal only the digits count.
 // A day or a time has a length of its own, and a free value may have any.
-pub fn has_length(form: Form, least: u16, greatest: u16, v: &[u8]) -> bool
-    ensures { result ≡ good_length form least greatest v.now }
-{
-    has_length_in(form, usize::from(least), usize::from(greatest), v)
-}
-
-// The same for bounds of any size.
-pub fn has_length_in(form: Form, least: usize, greatest: usize, v: &[u8]) -> bool
+pub fn has_length(form: Form, least: usize, greatest: usize, v: &[u8]) -> bool
     ensures { result ≡ good_length form least greatest v.now }
 {
     match form {
-        Form::N0 | Form::Q | Form::Id | Form::An | Form::Spaces => is_within(
-            least,
-            greatest,
-            v.len(),
-        ),
-        Form::R => is_within(least, greatest, digit_count(v)),
+        Form::N0 | Form::Q | Form::Id | Form::An | Form::Spaces => {
+            (least..=greatest).contains(&v.len())
+        }
+        Form::R => (least..=greatest).contains(&digit_count(v)),
         Form::D8 => v.len() == 8,
         Form::D6 => v.len() == 6,
         Form::Tm => v.len() == 4,

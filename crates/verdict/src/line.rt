@@ -1,12 +1,19 @@
-ghost use Rattle.std.specs.Prelude.{◌≡◌, ◌≤◌, length};
+ghost use Rattle.std.specs.Prelude.{◌≡◌};
+ghost use Rattle.verdict.specs.Line.{text_of};
 
-mod writing;
+use arrayvec::ArrayString;
 
-// A line of text: the first `len` of its bytes.
+// A line of text.
 #[derive(Clone, Copy)]
 pub struct Line {
-    bytes: [u8; 128],
-    len: usize,
-    ghost fits: { len ≤ 128 },
-    ghost whole: { length bytes ≡ 128 },
+    pub(crate) text: ArrayString<128>,
+}
+
+impl Line {
+    // The bytes of the line.
+    pub fn as_bytes(&self) -> &[u8]
+        ensures { result.now ≡ text_of self.now }
+    {
+        self.text.as_str().as_bytes()
+    }
 }

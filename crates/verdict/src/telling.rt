@@ -1,37 +1,40 @@
-ghost use Rattle.std.specs.Prelude.{◌≡◌, ◌+◌, ◌*◌, ◌≤◌, ◌++◌, length};
-ghost use Rattle.verdict.specs.Line.{text_of, numbers, line_of};
+ghost use Rattle.std.specs.Prelude.{◌≡◌, ◌+◌, ◌*◌, ◌<◌, ◌++◌, length, Some};
+ghost use Rattle.verdict.specs.Line.{text_of, spaced, words_of, line_of};
 
 use crate::line::Line;
 use crate::verdicts::Verdict;
+use arrayvec::ArrayString;
+use itoa::Buffer;
+use std::fmt;
 
-// A word, then the numbers in decimal, each after one space, and the line feed.
-fn line_of(word: &[u8], all: &[u64]) -> Line
-    requires { length word.now + 21 * length all.now + 1 ≤ 128 }
-    ensures { text_of result ≡ word.now ++ numbers all.now }
+// A word, then the numbers in decimal, each after one space.
+fn spaced(word: &str, all: &[u64]) -> ArrayString<128>
+    requires { length word.now + 21 * length all.now < 128 }
+    ensures is { result.bytes ≡ word.now ++ spaced all.now }
+    ensures room { length result.bytes < 128 }
 {
-    let mut line = Line::new();
-    for byte in word {
-        line.push(*byte);
-    }
+    let mut text = ArrayString::new();
+    text.push_str(word);
+    let mut digits = Buffer::new();
     for number in all {
-        line.push(b' ');
-        line.push_number(*number);
+        text.push(' ');
+        text.push_str(digits.format(*number));
     }
-    line.push(b'\n');
-    line
+    text
 }
 
-// The line of a verdict: ACCEPTED with the totals, or REFUSED with what the fault says.
-pub fn verdict_line(verdict: Verdict) -> Line
-    ensures { text_of result ≡ line_of verdict }
+// What a verdict says: ACCEPTED with the totals, or REFUSED with what the fault says.
+fn words(verdict: Verdict) -> ArrayString<128>
+    ensures is { result.bytes ≡ words_of verdict }
+    ensures room { length result.bytes < 128 }
 {
     match verdict {
-        Verdict::Accepted(t) => line_of(
-            b"ACCEPTED",
+        Verdict::Accepted(t) => spaced(
+            "ACCEPTED",
             &[t.segments as u64, t.sets as u64, t.lines as u64, t.sum],
         ),
-        Verdict::Refused(f) => line_of(
-            b"REFUSED",
+        Verdict::Refused(f) => spaced(
+            "REFUSED",
             &[
                 f.number as u64,
                 f.layer as u64,
@@ -40,5 +43,22 @@ pub fn verdict_line(verdict: Verdict) -> Line
                 f.place as u64,
             ],
         ),
+    }
+}
+
+// The line of a verdict: what it says, and the line feed.
+pub fn verdict_line(verdict: Verdict) -> Line
+    ensures { text_of result ≡ line_of verdict }
+{
+    let mut text = words(verdict);
+    text.push('\n');
+    Line { text }
+}
+
+impl fmt::Display for Verdict {
+    ghost output = { λ v. Some (words_of v) };
+
+    fn fmt<W: fmt::Write>(&self, f: &mut fmt::Formatter<W>) -> fmt::Result {
+        f.write_str(words(*self).as_str())
     }
 }
