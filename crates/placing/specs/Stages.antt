@@ -8,6 +8,7 @@ use Rattle.grammar.proofs.States.{Run}
 use Rattle.grammar.proofs.LoopStates.{LoopState, without_loops, LoopStep}
 use Rattle.grammar.proofs.Envelope.{interchange_rows}
 use Rattle.grammar.proofs.LastRow.{BeforeLast, after_last}
+use Rattle.guide.specs.declared.rules.Mark.{Mark as MarkValue}
 use Rattle.guide.specs.Meaning.{Meaning, size}
 use Rattle.guide.specs.Asked.{rows_of, label_of}
 use Rattle.grammar.proofs.Determined.{Refuses}
@@ -50,6 +51,10 @@ StandsAt m End g s place us depth S = S ≡ (end, 0) ∷ (row 68 0 0 end end, 0)
 -- a segment's mark, by its name and its first element
 abbrev pub mark : List ℕ → List ℕ → Mark
 mark name first = record { name = name; first = first }
+
+-- a mark of the program
+abbrev pub marked : MarkValue → Mark
+marked k = mark k.name.now k.first.now
 
 abbrev pub PlacerStands : Meaning → Placer → LoopState → Type 0
 PlacerStands m p S = StandsAt m p.phase p.groups p.sets p.set.place p.set.used p.set.depth S

@@ -5,7 +5,7 @@ ghost use Rattle.placing.specs.Structure.{cause_of_segment};
 use x12::faults::{ByteFault, Fault};
 
 // The faults of bytes and of structure.
-#[derive(Clone, Copy)]
+#[derive(Clone, Copy, Debug, PartialEq, Eq)]
 pub enum SegmentFault {
     Bytes(ByteFault),
     // No row takes the segment.
@@ -14,28 +14,15 @@ pub enum SegmentFault {
     Incomplete { segment: usize, place: usize },
 }
 
-// A fault of layer 2; it stands at element 0.
-fn of_structure(number: u8, segment: usize, place: usize) -> Fault
-    ensures { result ≡ record { number = number; layer = 2; segment = segment; element = 0; place = place } }
-{
-    Fault {
-        number,
-        layer: 2,
-        segment,
-        element: 0,
-        place,
-    }
-}
+// The number, layer, segment, element and place of the fault; one of structure stands at element 0.
+impl From<SegmentFault> for Fault {
+    ghost from_gives = { λ f r. r ≡ cause_of_segment f };
 
-impl SegmentFault {
-    // The number, layer, segment, element and place of the fault.
-    pub fn fault(self) -> Fault
-        ensures { result ≡ cause_of_segment self }
-    {
-        match self {
-            SegmentFault::Bytes(bytes) => bytes.fault(),
-            SegmentFault::Misplaced { segment, place } => of_structure(6, segment, place),
-            SegmentFault::Incomplete { segment, place } => of_structure(7, segment, place),
+    fn from(fault: SegmentFault) -> Fault {
+        match fault {
+            SegmentFault::Bytes(bytes) => Fault::from(bytes),
+            SegmentFault::Misplaced { segment, place } => Fault::new(6, segment, 0, place),
+            SegmentFault::Incomplete { segment, place } => Fault::new(7, segment, 0, place),
         }
     }
 }

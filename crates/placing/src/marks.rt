@@ -1,14 +1,17 @@
-ghost use Rattle.std.specs.Prelude.{◌≡◌, ◌+◌, ◌^◌, ◌<◌, length};
-ghost use Rattle.x12.specs.Segments.{segment as as_segment};
-ghost use Rattle.x12.specs.Elements.{element_of_segment};
+ghost use Rattle.std.specs.Prelude.{◌≡◌};
+ghost use Rattle.x12.specs.Views.{plain};
+ghost use Rattle.placing.specs.Structure.{mark_in};
+ghost use Rattle.placing.specs.Stages.{marked};
 
-use x12::elements::part_in;
+use guide::rules::Mark;
 use x12::parts::Segment;
 
-// The bytes of element `number` of a segment; an absent element has none.
-pub fn bytes_in<'a>(separator: u8, segment: Segment<'a>, number: usize) -> &'a [u8]
-    requires { segment.place + length segment.bytes.now < 2 ^ 64 }
-    ensures { result.now ≡ (element_of_segment separator (as_segment (segment.entry.place, segment.entry.bytes.now) segment.entry.closed) number).1 }
+// What a segment is known by: its name and its first element.
+pub fn mark_of<'a>(segment: &Segment<'a>) -> Mark<'a>
+    ensures { marked result ≡ mark_in segment.now.delimiters.separator (plain segment.now) }
 {
-    part_in(separator, segment, number).bytes
+    Mark {
+        name: segment.bytes_of(0),
+        first: segment.bytes_of(1),
+    }
 }

@@ -1,5 +1,5 @@
 // Where an interchange stands: before ISA, after ISA, after GS, in a set, after a set's SE, after GE, after IEA.
-#[derive(Clone, Copy)]
+#[derive(Clone, Copy, Debug, PartialEq, Eq)]
 pub enum Phase {
     Start,
     Header,

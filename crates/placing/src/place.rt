@@ -1,6 +1,6 @@
 ghost use Rattle.std.specs.Prelude.{[]};
 ghost use Rattle.guide.specs.Meaning.{Meaning};
-ghost use Rattle.placing.specs.Stages.{mark};
+ghost use Rattle.placing.specs.Stages.{marked};
 ghost use Rattle.placing.specs.Placing.{HasPlaced, PlacesNext, TellsWhole};
 
 use crate::phase::Phase;
@@ -8,6 +8,7 @@ use crate::placer::{Placed, Placer};
 use crate::sets::{SetState, UsedRow};
 use crate::steps::next_step;
 use guide::guide::Guide;
+use guide::rules::Mark;
 
 impl Placer {
     // Before the first segment of an interchange.
@@ -32,19 +33,16 @@ impl Placer {
         }
     }
 
-    // The place of the next segment, which has this number, this name and this first element. None: no derivation goes on so, and the placer stays.
+    // The place of the next segment, which has this number and this mark. None: no derivation goes on so, and the placer stays.
     pub fn place<G: Guide>(
         &mut self,
         guide: &G,
         segment: usize,
-        name: &[u8],
-        first: &[u8],
+        mark: Mark<'_>,
     ) -> Option<Placed>
-        ensures { PlacesNext (G.meaning guide.now) self.old self.new segment (mark name.now first.now) result }
+        ensures { PlacesNext (G.meaning guide.now) self.old self.new segment (marked mark.entry) result }
     {
-        let Some(step) = next_step(guide, self, segment, name, first) else {
-            return None;
-        };
+        let step = next_step(guide, self, segment, mark)?;
         *self = step.placer;
         Some(step.placed)
     }

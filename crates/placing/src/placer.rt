@@ -2,7 +2,7 @@ use crate::phase::Phase;
 use crate::sets::SetState;
 
 // A segment in its place: its row, its innermost loop and the loop that its row stands in, each named by the segment that opens it (0: none).
-#[derive(Clone, Copy)]
+#[derive(Clone, Copy, Debug, PartialEq, Eq)]
 pub struct Placed {
     pub row: u8,
     pub around: usize,

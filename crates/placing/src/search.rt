@@ -6,7 +6,7 @@ ghost use Rattle.placing.specs.Model.{table_of, least_of, greatest_of, opens_of,
 
 use crate::sets::{Choice, SetState};
 use guide::guide::Guide;
-use guide::rules::Row;
+use guide::rules::{Mark, Row};
 
 // The row behind a place, if it stands in so many loops.
 fn row_behind<G: Guide>(guide: &G, place: u8, depth: usize) -> Option<Row>
@@ -17,9 +17,7 @@ fn row_behind<G: Guide>(guide: &G, place: u8, depth: usize) -> Option<Row>
     if place >= 64 {
         return None;
     }
-    let Some(row) = guide.row(place + 1) else {
-        return None;
-    };
+    let row = guide.row(place + 1)?;
     if usize::from(row.depth) != depth {
         return None;
     }
@@ -54,18 +52,18 @@ fn uses_of<G: Guide>(guide: &G, row: u8) -> Uses
 
 // The row that takes a segment with this name and first element, from where the set stands. The rows behind the place are tried first, in
 // order; a row that must still be used stops the search. Then comes the row in use around them, once more, and what lies behind it.
-pub(crate) fn find<G: Guide>(guide: &G, set: &SetState, name: &[u8], first: &[u8]) -> Option<Choice>
+pub(crate) fn find<G: Guide>(guide: &G, set: &SetState, mark: Mark<'_>) -> Option<Choice>
     ensures bounded { IfSome result (λ choice. choice.depth ≤ 4) }
     ensures right { (S : State) → Stands (G.meaning guide.now) set.now.place set.now.used set.now.depth S
-        → MatchOption result (Refuses (Fits (G.meaning guide.now)) S (name.now, first.now))
-        (λ choice. Chosen (G.meaning guide.now) set.now.used set.now.depth (name.now, first.now) S choice) }
+        → MatchOption result (Refuses (Fits (G.meaning guide.now)) S (mark.entry.name.now, mark.entry.first.now))
+        (λ choice. Chosen (G.meaning guide.now) set.now.used set.now.depth (mark.entry.name.now, mark.entry.first.now) S choice) }
 {
     let mut depth = set.depth;
     let mut place = set.place;
     loop {
         if let Some(row) = row_behind(guide, place, depth) {
             let next = place + 1;
-            if guide.fits(next, name, first) {
+            if guide.fits(next, mark) {
                 return Some(Choice {
                     row: next,
                     depth,
@@ -84,7 +82,7 @@ pub(crate) fn find<G: Guide>(guide: &G, set: &SetState, name: &[u8], first: &[u8
             depth -= 1;
             let used = set.used[depth];
             let uses = uses_of(guide, used.row);
-            if used.count < uses.greatest && guide.fits(used.row, name, first) {
+            if used.count < uses.greatest && guide.fits(used.row, mark) {
                 return Some(Choice {
                     row: used.row,
                     depth,

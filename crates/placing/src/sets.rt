@@ -1,7 +1,7 @@
 ghost use Rattle.std.specs.Prelude.{◌≡◌, ◌≤◌, length};
 
 // A row in use: how often it was used, and the innermost loop of its last segment, by the segment that opens it (0: none).
-#[derive(Clone, Copy)]
+#[derive(Clone, Copy, Debug, PartialEq, Eq)]
 pub struct UsedRow {
     pub row: u8,
     pub count: u32,
@@ -19,7 +19,7 @@ pub struct SetState {
 }
 
 // The row that takes a segment: in how many rows it stands, how often it is used with this segment, and whether it opens a loop.
-#[derive(Clone, Copy)]
+#[derive(Clone, Copy, Debug, PartialEq, Eq)]
 pub struct Choice {
     pub row: u8,
     pub depth: usize,

@@ -3,7 +3,7 @@ ghost use Rattle.guide.specs.Asked.{fits_row};
 ghost use Rattle.placing.specs.Model.{loop_with, around_of};
 ghost use Rattle.placing.specs.declared.phase.Phase.TheVariants.{Closed, Set};
 ghost use Rattle.placing.specs.Turns.{is2};
-ghost use Rattle.placing.specs.Stages.{Steps, SetBegins, mark};
+ghost use Rattle.placing.specs.Stages.{Steps, SetBegins, marked};
 
 use crate::phase::Phase;
 use crate::placer::{Placed, Placer, Step};
@@ -11,6 +11,7 @@ use crate::search::find;
 use crate::sets::{Choice, SetState, UsedRow};
 use crate::turn::{Turn, turn_of};
 use guide::guide::Guide;
+use guide::rules::Mark;
 
 // The loop that a row at this depth stands in.
 fn loop_at(set: &SetState, depth: usize) -> usize
@@ -82,17 +83,14 @@ fn inside<G: Guide>(
     guide: &G,
     placer: &Placer,
     segment: usize,
-    name: &[u8],
-    first: &[u8],
+    mark: Mark<'_>,
 ) -> Option<Step>
-    ensures { placer.now.phase ≡ Set → Steps (G.meaning guide.now) placer.now segment (mark name.now first.now) result }
+    ensures { placer.now.phase ≡ Set → Steps (G.meaning guide.now) placer.now segment (marked mark.entry) result }
 {
-    let Some(choice) = find(guide, &placer.set, name, first) else {
-        return None;
-    };
+    let choice = find(guide, &placer.set, mark)?;
     let placed = place_in(&placer.set, choice, segment);
     let set = take_row(&placer.set, choice, placed.around);
-    let phase = phase_behind(name);
+    let phase = phase_behind(mark.name);
     Some(Step {
         placed,
         placer: Placer {
@@ -108,13 +106,12 @@ fn begin_set<G: Guide>(
     guide: &G,
     placer: &Placer,
     sets: u32,
-    name: &[u8],
-    first: &[u8],
+    mark: Mark<'_>,
 ) -> Option<Step>
-    ensures { MatchOption result (fits_row (G.meaning guide.now) 1 name.now first.now ≡ false)
-        (λ step. (fits_row (G.meaning guide.now) 1 name.now first.now ≡ true) × SetBegins placer.now.groups sets step) }
+    ensures { MatchOption result (fits_row (G.meaning guide.now) 1 mark.entry.name.now mark.entry.first.now ≡ false)
+        (λ step. (fits_row (G.meaning guide.now) 1 mark.entry.name.now mark.entry.first.now ≡ true) × SetBegins placer.now.groups sets step) }
 {
-    if !guide.fits(1, name, first) {
+    if !guide.fits(1, mark) {
         return None;
     }
     let set = SetState {
@@ -152,12 +149,11 @@ pub(crate) fn next_step<G: Guide>(
     guide: &G,
     placer: &Placer,
     segment: usize,
-    name: &[u8],
-    first: &[u8],
+    mark: Mark<'_>,
 ) -> Option<Step>
-    ensures { Steps (G.meaning guide.now) placer.now segment (mark name.now first.now) result }
+    ensures { Steps (G.meaning guide.now) placer.now segment (marked mark.entry) result }
 {
-    match turn_of(placer.phase, name) {
+    match turn_of(placer.phase, mark.name) {
         Turn::Isa => pass(placer, 65, Phase::Header, 0),
         Turn::FirstGs => pass(placer, 66, Phase::Group, 1),
         Turn::NextGs => {
@@ -166,16 +162,16 @@ pub(crate) fn next_step<G: Guide>(
             }
             pass(placer, 66, Phase::Group, placer.groups + 1)
         }
-        Turn::FirstSt => begin_set(guide, placer, 1, name, first),
+        Turn::FirstSt => begin_set(guide, placer, 1, mark),
         Turn::NextSt => {
             if placer.sets >= 256 {
                 return None;
             }
-            begin_set(guide, placer, placer.sets + 1, name, first)
+            begin_set(guide, placer, placer.sets + 1, mark)
         }
         Turn::Ge => pass(placer, 67, Phase::Trailer, placer.groups),
         Turn::Iea => pass(placer, 68, Phase::End, placer.groups),
-        Turn::Inside => inside(guide, placer, segment, name, first),
+        Turn::Inside => inside(guide, placer, segment, mark),
         Turn::Nowhere => None,
     }
 }

@@ -5,13 +5,14 @@ ghost use Rattle.x12.specs.Rank.{First, NoneOf};
 ghost use Rattle.placing.specs.Structure.{StructureMet, SegmentMet, cause_of_segment};
 
 use crate::faults::SegmentFault;
-use crate::marks::bytes_in;
+use crate::marks::mark_of;
 use crate::placer::Placer;
 use guide::guide::Guide;
+use x12::faults::Fault;
 use x12::header::read_header;
 use x12::parts::Delimiters;
 use x12::scans::scan;
-use x12::segments::next_segment;
+use x12::segments::Segments;
 
 // The segments of an interchange with these delimiters, placed one after the other: how many they are, or the fault of structure that is met.
 fn place_segments<G: Guide>(
@@ -26,18 +27,14 @@ fn place_segments<G: Guide>(
 {
     let mut placer = Placer::start();
     let mut count = 0;
-    let mut at = 0;
-    while let Some(segment) = next_segment(interchange, delimiters, at) {
-        count += 1;
-        let name = bytes_in(delimiters.separator, segment, 0);
-        let first = bytes_in(delimiters.separator, segment, 1);
-        if placer.place(guide, count, name, first).is_none() {
+    for segment in Segments::new(interchange, delimiters) {
+        count = segment.number;
+        if placer.place(guide, count, mark_of(&segment)).is_none() {
             return Err(SegmentFault::Misplaced {
                 segment: count,
                 place: segment.place,
             });
         }
-        at = segment.place + segment.bytes.len() + 1;
     }
     if !placer.is_whole() {
         return Err(SegmentFault::Incomplete {
@@ -60,7 +57,7 @@ pub fn check_structure<G: Guide>(guide: &G, interchange: &[u8]) -> Result<usize,
         return placed;
     };
     if let Err(misfit) = placed {
-        if misfit.fault().segment < bytes.fault().segment {
+        if Fault::from(misfit).segment < Fault::from(bytes).segment {
             return Err(misfit);
         }
     }

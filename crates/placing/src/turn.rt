@@ -4,7 +4,7 @@ ghost use Rattle.placing.specs.Turns.{turn_of};
 use crate::phase::Phase;
 
 // What a segment does to an interchange, by its name: which segment of the envelope it is, or that it stands inside a set, or that it has no place.
-#[derive(Clone, Copy)]
+#[derive(Clone, Copy, Debug, PartialEq, Eq)]
 pub enum Turn {
     Isa,
     FirstGs,

@@ -1,5 +1,5 @@
 -- A walk over the segments of an interchange, one segment a turn.
-use Rattle.std.proofs.Common.{◌≡◌, ℕ, suc, ◌+◌, List, [], length, Ok, Err, Result, sym, ap, ◌∙◌, subst, add-one}
+use Rattle.std.proofs.Common.{◌≡◌, ℕ, suc, ◌+◌, List, [], length, Ok, Err, Result, sym, ap, ◌∙◌, subst, add-one, ◌≤◌, arith}
 use Rattle.x12.specs.declared.parts.Delimiters.{Delimiters}
 use Rattle.x12.specs.declared.parts.Segment.{Segment}
 use Rattle.x12.specs.declared.segments.Segments.{Segments}
@@ -14,6 +14,7 @@ use Rattle.x12.proofs.Turns.{each_stop, each_on}
 pub record On (I : List ℕ) (d : Delimiters) (s : Segments) : Type 0 where
   pub within : s.interchange.now ≡ I
   pub divided : s.delimiters ≡ d
+  pub inside : s.at ≤ length I + 1
 
 -- a turn, said of the interchange and its delimiters
 pub record Turn (I : List ℕ) (d : Delimiters) (s : Segments) (x : Segment) (t : Segments) : Type 0 where
@@ -32,7 +33,11 @@ module _ (I : List ℕ) (d : Delimiters) (s : Segments) (o : On I d s) where
             (subst (λ (e : Delimiters). FirstFrom s.interchange.now e.terminator s.at x.place x.bytes.now x.closed) o.divided n.first);
         numbered = n.numbered;
         delimited = n.delimited ∙ o.divided;
-        on = record { within = ap (λ r. r.now) n.same ∙ o.within; divided = n.same_delimiters ∙ o.divided };
+        on = record {
+          within = ap (λ r. r.now) n.same ∙ o.within;
+          divided = n.same_delimiters ∙ o.divided;
+          inside = (let h = subst (λ (l : List ℕ). x.place + length x.bytes.now ≤ length l) o.within n.first.inside in omega (arith, n.behind));
+        };
         behind = n.behind;
         counted = n.counted;
       }

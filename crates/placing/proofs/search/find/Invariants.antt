@@ -8,7 +8,7 @@ abbrev pub invariant-loop-row : goal.invariant-loop-row
 invariant-loop-row g l =
     let m = g.G.Guide.meaning l.guide in
     (l.depth ≤ l.set.depth)
-    × ((S : State) → Stands m l.set.place l.set.used l.set.depth S → Searching (table_of m) (least_of m) (greatest_of m) (Fits m) (l.name, l.first) S l.place (below l.set.used l.depth))
+    × ((S : State) → Stands m l.set.place l.set.used l.set.depth S → Searching (table_of m) (least_of m) (greatest_of m) (Fits m) (l.mark.name.now, l.mark.first.now) S l.place (below l.set.used l.depth))
 
 abbrev pub decreases-loop-row : goal.decreases-loop-row
 decreases-loop-row g l = (256 - l.place) + l.depth

@@ -9,7 +9,7 @@ use Rattle.placing.specs.declared.placer.Placed.{Placed}
 use Rattle.placing.specs.declared.sets.Choice.{Choice}
 use Rattle.placing.specs.declared.sets.UsedRow.{UsedRow as CodeRow}
 use Rattle.placing.specs.Model.{taken, around_of, loop_with}
-use Rattle.placing.specs.Stages.{StandsAt, mark, spot_for}
+use Rattle.placing.specs.Stages.{StandsAt, marked, spot_for}
 use Rattle.placing.proofs.Inside.{inside_refused, inside_taken}
 use Rattle.placing.proofs.Turns.{NextPhase, phase_behind_lem}
 use Rattle.placing.proofs.steps.inside.Goals as goal
@@ -27,13 +27,14 @@ told m S g s us n c mk p x ex place vs depth ep ev ed t =
     subst (λ (z : Placed × ℕ × List CodeRow × ℕ). RowMatches (label_of m) z.0.row mk × ((V : LoopState) × LoopStep S n (spot_for z.0) V × StandsAt m p g s z.1 z.2 z.3 V))
     (λ i. (sym ex i, sym ep i, sym used i, sym ed i)) old
 
-pub returns-in_default : goal.returns-in_default
-returns-in_default g c = λ e S st.
+pub returns-in_err-choice : goal.returns-in_err-choice
+returns-in_err-choice g c = λ e S st.
     let m = g.G.Guide.meaning c.args.guide.now in
     let p = c.args.placer.now in
-    inside_refused m (g.G.Guide.lawful c.args.guide.now) p.set.used p.set.place p.set.depth p.groups p.sets (mark c.args.name.now c.args.first.now) S
+    rw c.from_residual.ensures
+    (inside_refused m (g.G.Guide.lawful c.args.guide.now) p.set.used p.set.place p.set.depth p.groups p.sets (marked c.args.mark) S
     (subst (λ (k : Phase). StandsAt m k p.groups p.sets p.set.place p.set.used p.set.depth S) e st)
-    c.in_default.ensures.right
+    c.in_err-choice.ensures.right)
 
 pub returns : goal.returns
 returns g c = λ e S st.
@@ -41,14 +42,14 @@ returns g c = λ e S st.
     let p = c.args.placer.now in
     let us = p.set.used in
     let n = c.args.segment in
-    let ch = c.in-Some.choice in
-    let shallow = c.in-Some.ensures.bounded in
+    let ch = c.in_ok-choice.choice in
+    let shallow = c.in_ok-choice.ensures.bounded in
     let whole = p.set.whole in
     let placed = c.place_in-placed.ensures in
     let set = c.take_row-set.ensures in
-    let next : NextPhase c.args.name.now c.phase_behind-phase.result = subst (NextPhase c.args.name.now) (sym c.phase_behind-phase.ensures) (phase_behind_lem c.args.name.now) in
-    let t = inside_taken m (g.G.Guide.lawful c.args.guide.now) us p.set.place p.set.depth p.groups p.sets (mark c.args.name.now c.args.first.now) n ch S c.phase_behind-phase.result
+    let next : NextPhase c.args.mark.name.now c.phase_behind-phase.result = subst (NextPhase c.args.mark.name.now) (sym c.phase_behind-phase.ensures) (phase_behind_lem c.args.mark.name.now) in
+    let t = inside_taken m (g.G.Guide.lawful c.args.guide.now) us p.set.place p.set.depth p.groups p.sets (marked c.args.mark) n ch S c.phase_behind-phase.result
     (subst (λ (k : Phase). StandsAt m k p.groups p.sets p.set.place us p.set.depth S) e st)
-    c.in-Some.ensures.right (omega arith) next in
-    told m S p.groups p.sets us n ch (mark c.args.name.now c.args.first.now) c.phase_behind-phase.result c.place_in-placed.result placed
+    c.in_ok-choice.ensures.right (omega arith) next in
+    told m S p.groups p.sets us n ch (marked c.args.mark) c.phase_behind-phase.result c.place_in-placed.result placed
     c.take_row-set.result.place c.take_row-set.result.used c.take_row-set.result.depth set.0 set.1 set.2 t

@@ -28,20 +28,20 @@ returns-in_default g c =
     let d = c.in_ok-delimiters.ensures in
     sound_bytes (g.G.Guide.meaning c.args.guide.now) c.args.interchange.now c.place_segments-placed.result c.in_default.ensures.0 (c.place_segments-placed.ensures d.3 d.1)
 
-pub returns-then-fault : goal.returns-then-fault
-returns-then-fault g c =
+pub returns-then-from : goal.returns-then-from
+returns-then-from g c =
     let d = c.in_ok-delimiters.ensures in
-    let a = ap (λ (z : Fault). z.segment) c.fault.ensures in
-    let b = ap (λ (z : Fault). z.segment) c.fault-in-Err-placed.ensures in
-    let h = c.if-fault.true in
+    let a = ap (λ (z : Fault). z.segment) c.from.ensures in
+    let b = ap (λ (z : Fault). z.segment) c.from-in-Err-placed.ensures in
+    let h = c.if-from.true in
     structure_earlier (g.G.Guide.meaning c.args.guide.now) c.args.interchange.now (cause_of c.in-Err.bytes) (cause_of_segment c.in-Err-placed.misfit) c.in-Err.ensures (c.in-Err-placed.ensures d.3 d.1) (omega arith)
 
-pub returns-else-fault : goal.returns-else-fault
-returns-else-fault g c =
+pub returns-else-from : goal.returns-else-from
+returns-else-from g c =
     let d = c.in_ok-delimiters.ensures in
-    let a = ap (λ (z : Fault). z.segment) c.fault.ensures in
-    let b = ap (λ (z : Fault). z.segment) c.fault-in-Err-placed.ensures in
-    let h = c.if-fault.false in
+    let a = ap (λ (z : Fault). z.segment) c.from.ensures in
+    let b = ap (λ (z : Fault). z.segment) c.from-in-Err-placed.ensures in
+    let h = c.if-from.false in
     bytes_earlier (g.G.Guide.meaning c.args.guide.now) c.args.interchange.now (cause_of c.in-Err.bytes) (cause_of_segment c.in-Err-placed.misfit) c.in-Err.ensures (c.in-Err-placed.ensures d.3 d.1) (omega arith)
 
 pub returns-in_default-placed : goal.returns-in_default-placed
