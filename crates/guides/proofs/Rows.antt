@@ -1,14 +1,13 @@
 -- The look-ups of a table give what a judge asks of the meaning.
-use Rattle.std.proofs.Common.{◌≡◌, ℕ, zero, suc, ◌<◌, ◌≤◌, Bool, true, false, cond, ◌||◌, List, [], ◌∷◌, map, length, get_or, Some, None, Option, MatchOption, IfSome, option_copied, sym, refl, ap, ◌∙◌, ◌==◌, ◌-◌, arith}
+use Rattle.std.proofs.Common.{◌≡◌, ℕ, zero, suc, ◌≤◌, Bool, true, false, cond, ◌||◌, List, [], ◌∷◌, map, length, Some, None, Option, option_copied, sym, refl, ap, ◌∙◌, ◌==◌, ◌-◌, arith}
 use Rattle.std.proofs.lemmas.Bool.{false≢true}
-use Rattle.std.proofs.lemmas.Option.{slice_get_past, slice_get_read}
 use Rattle.std.specs.Borrow.{Bor}
-use Rattle.std.specs.List.{list_any, find, slice_get, HoldsAt}
+use Rattle.std.specs.List.{list_any, find, slice_get}
 use Rattle.std.specs.Str.{bytes_eq}
 use Rattle.x12.specs.Lists.{nth}
 use Rattle.guide.specs.declared.rules.Row.{Row}
 use Rattle.guide.specs.Meaning.{Meaning, Standing, standing}
-use Rattle.guide.specs.Asked.{any_pair, is_among, admits, over, and_then, told, find_rule, row_at, row_of, element_at}
+use Rattle.guide.specs.Asked.{is_among, admits, over, and_then, told, find_rule, row_at, row_of, element_at}
 use Rattle.guides.specs.declared.tables.Element.{Element}
 use Rattle.guides.specs.declared.tables.TableRow.{TableRow}
 use Rattle.guides.specs.Rows.{texts, element_meant, standing_meant, told_of, Means}
