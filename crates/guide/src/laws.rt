@@ -1,6 +1,7 @@
 ghost use Rattle.guide.specs.Judged.{EveryListIsJudged, LawfulRows};
 
 // The rows of a lawful guide keep what the theory of derivations asks of a set.
+#[tactic(auto, using(crate::proofs::Sets::lawful_rows))]
 pub fn lawful_guides_have_lawful_rows()
     ensures { LawfulRows }
 {}

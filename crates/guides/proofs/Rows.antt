@@ -1,17 +1,16 @@
--- How a table's lines are looked up: std's searches give what a judge asks.
-use Rattle.std.proofs.Common.{◌≡◌, ℕ, zero, suc, ◌<◌, ◌≤◌, Bool, true, false, cond, ◌||◌, List, [], ◌∷◌, map, length, get_or, Some, None, Option, MatchOption, IfSome, option_copied, sym, refl, ap, ◌∙◌, ◌==◌, ◌-◌, arith}
+-- The look-ups of a table give what a judge asks of the meaning.
+use Rattle.std.proofs.Common.{◌≡◌, ℕ, zero, suc, ◌≤◌, Bool, true, false, cond, ◌||◌, List, [], ◌∷◌, map, length, Some, None, Option, option_copied, sym, refl, ap, ◌∙◌, ◌==◌, ◌-◌, arith}
 use Rattle.std.proofs.lemmas.Bool.{false≢true}
-use Rattle.std.proofs.lemmas.Option.{slice_get_past, slice_get_read}
 use Rattle.std.specs.Borrow.{Bor}
-use Rattle.std.specs.List.{list_any, find, slice_get, HoldsAt}
+use Rattle.std.specs.List.{list_any, find, slice_get}
 use Rattle.std.specs.Str.{bytes_eq}
 use Rattle.x12.specs.Lists.{nth}
 use Rattle.guide.specs.declared.rules.Row.{Row}
 use Rattle.guide.specs.Meaning.{Meaning, Standing, standing}
-use Rattle.guide.specs.Asked.{any_pair, is_among, admits, over, and_then, told, find_rule, row_at, row_of, element_at}
+use Rattle.guide.specs.Asked.{is_among, admits, over, and_then, told, find_rule, row_at, row_of, element_at}
 use Rattle.guides.specs.declared.tables.Element.{Element}
-use Rattle.guides.specs.declared.tables.Line.{Line}
-use Rattle.guides.specs.Rows.{texts, element_meant, standing_meant, row_told, Means}
+use Rattle.guides.specs.declared.tables.TableRow.{TableRow}
+use Rattle.guides.specs.Rows.{texts, element_meant, standing_meant, told_of, Means}
 
 pub is_among_lem : (v : List ℕ) (cs : List (Bor (List ℕ))) → list_any (λ c. bytes_eq v c.now) cs ≡ is_among v (texts cs)
 is_among_lem v [] = refl
@@ -25,19 +24,19 @@ pub find_rule_lem : (n : ℕ) (xs : List Element) → over element_meant (find (
 find_rule_lem n [] = refl
 find_rule_lem n (x ∷ xs) = over_cond element_meant (n == x.number) x (find (λ e. n == e.number) xs) ∙ ap (cond (n == x.number) (Some (element_meant x))) (find_rule_lem n xs)
 
-pub nth_zero : {X : Type 0} (xs : List X) (n : ℕ) → n ≡ 0 → None ≡ nth xs n
+pub nth_zero : {X : Type 0} (xs : List X) (n : ℕ) → n ≡ 0 → nth xs n ≡ None
 nth_zero [] n e = refl
 nth_zero (x ∷ xs) zero e = refl
 nth_zero (x ∷ xs) (suc n) e = absurd (omega arith)
 
-pub nth_get : {X : Type 0} (xs : List X) (k : ℕ) → slice_get xs k ≡ nth xs (suc k)
+nth_get : {X : Type 0} (xs : List X) (k : ℕ) → nth xs (suc k) ≡ slice_get xs k
 nth_get [] k = refl
 nth_get (x ∷ xs) zero = refl
 nth_get (x ∷ xs) (suc k) = nth_get xs k
 
-pub nth_before : {X : Type 0} (xs : List X) (n : ℕ) → (n ≡ 0 → ⊥) → slice_get xs (n - 1) ≡ nth xs n
-nth_before xs zero h = absurd (h refl)
-nth_before xs (suc k) h = let e : suc k - 1 ≡ k = omega arith in ap (slice_get xs) e ∙ nth_get xs k
+pub nth_before : {X : Type 0} (xs : List X) (n : ℕ) → 1 ≤ n → nth xs n ≡ slice_get xs (n - 1)
+nth_before xs zero h = absurd (omega arith)
+nth_before xs (suc k) h = let e : k ≡ suc k - 1 = omega arith in nth_get xs k ∙ ap (slice_get xs) e
 
 pub over_nth : {X Y : Type 0} (f : X → Y) (xs : List X) (n : ℕ) → over f (nth xs n) ≡ nth (map f xs) n
 over_nth f [] n = refl
@@ -45,27 +44,22 @@ over_nth f (x ∷ xs) zero = refl
 over_nth f (x ∷ xs) (suc zero) = refl
 over_nth f (x ∷ xs) (suc (suc n)) = over_nth f xs (suc n)
 
-pub admits_lem : (v : List ℕ) (cs : List (Bor (List ℕ))) → false ≡ (length cs == 0) → list_any (λ c. bytes_eq v c.now) cs ≡ admits (texts cs) v
-admits_lem v [] h = absurd (false≢true h)
-admits_lem v (c ∷ cs) h = is_among_lem v (c ∷ cs)
-
-pub get_lem : {X : Type 0} (xs : List X) (k : ℕ) (r : Option (Bor X)) → IfSome r (λ x. x.now ≡ get_or xs k x.now) → MatchOption r (length xs ≤ k) (λ x. (k < length xs) × HoldsAt (λ y. x.now ≡ y) xs k)
-    → option_copied r ≡ slice_get xs k
-get_lem xs k None i m = sym (slice_get_past xs k m)
-get_lem xs k (Some x) i m = sym (slice_get_read xs (length xs) k x.now refl m.0 i)
+pub admits_lem : (v : List ℕ) (cs : List (Bor (List ℕ))) → (length cs == 0) ≡ false → admits (texts cs) v ≡ list_any (λ c. bytes_eq v c.now) cs
+admits_lem v [] h = absurd (false≢true (sym h))
+admits_lem v (c ∷ cs) h = sym (is_among_lem v (c ∷ cs))
 
 over_copied : {X Y : Type 0} (f : X → Y) (r : Option (Bor X)) → over (λ x. f x.now) r ≡ over f (option_copied r)
 over_copied f None = refl
 over_copied f (Some x) = refl
 
-pub stands_lem : (m : Meaning) (ls : List Line) (n : ℕ) (r : Option (Bor Line)) → Means ls m → option_copied r ≡ nth ls n → over (λ l. standing_meant l.now) r ≡ row_at m n
+pub stands_lem : (m : Meaning) (ls : List TableRow) (n : ℕ) (r : Option (Bor TableRow)) → Means ls m → option_copied r ≡ nth ls n → over (λ l. standing_meant l.now) r ≡ row_at m n
 stands_lem m ls n r means e = over_copied standing_meant r ∙ ap (over standing_meant) e ∙ over_nth standing_meant ls n ∙ ap (λ (rows : List Standing). nth rows n) means.0
 
-pub told_lem : (m : Meaning) (ls : List Line) (n : ℕ) (r : Option (Bor Line)) → Means ls m → option_copied r ≡ nth ls n → over (λ l. l.now.row) r ≡ row_of m n
+pub told_lem : (m : Meaning) (ls : List TableRow) (n : ℕ) (r : Option (Bor TableRow)) → Means ls m → option_copied r ≡ nth ls n → over (λ l. l.now.told) r ≡ row_of m n
 told_lem m ls n r means e =
-    over_copied row_told r ∙ ap (over row_told) e ∙ over_nth row_told ls n ∙ ap (λ (rows : List Row). nth rows n) means.1 ∙ sym (over_nth told (standing 0 m.tree) n)
+    over_copied told_of r ∙ ap (over told_of) e ∙ over_nth told_of ls n ∙ ap (λ (rows : List Row). nth rows n) means.1 ∙ sym (over_nth told (standing 0 m.tree) n)
 
-pub element_lem : (m : Meaning) (n k : ℕ) (l : Bor Line) (r : Option (Bor Element)) → Some (standing_meant l.now) ≡ row_at m n → option_copied r ≡ find (λ e. k == e.number) l.now.elements.now
+pub element_lem : (m : Meaning) (n k : ℕ) (l : Bor TableRow) (r : Option (Bor Element)) → Some (standing_meant l.now) ≡ row_at m n → option_copied r ≡ find (λ e. k == e.number) l.now.elements.now
     → over (λ e. element_meant e.now) r ≡ element_at m n k
 element_lem m n k l r stands e =
     over_copied element_meant r ∙ ap (over element_meant) e ∙ find_rule_lem k l.now.elements.now ∙ ap (λ (o : Option Standing). and_then o (λ s. find_rule k s.this.elements)) stands

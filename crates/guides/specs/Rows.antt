@@ -1,38 +1,39 @@
--- What a table of rows means.
+-- What a table means.
 use Rattle.std.specs.Prelude.{◌≡◌, ℕ, List, map}
 use Rattle.std.specs.Borrow.{Bor}
 use Rattle.guide.specs.declared.rules.Row.{Row}
 use Rattle.guide.specs.Meaning.{ElementRule, GuideRow, Standing, Meaning, standing}
 use Rattle.guide.specs.Asked.{told}
 use Rattle.guides.specs.declared.tables.Element.{Element}
-use Rattle.guides.specs.declared.tables.Line.{Line}
+use Rattle.guides.specs.declared.tables.TableRow.{TableRow}
 
 -- the bytes that a reference points to
 abbrev pub bytes_of : Bor (List ℕ) → List ℕ
 bytes_of r = r.now
 
+-- a list of codes, an element, a row, a row where it stands, and a row as it is told
 abbrev pub texts : List (Bor (List ℕ)) → List (List ℕ)
 texts codes = map bytes_of codes
 
 abbrev pub element_meant : Element → ElementRule
 element_meant e = record { number = e.number; rule = e.rule; codes = texts e.codes.now }
 
-abbrev pub row_meant : Line → GuideRow
-row_meant l = record {
-  name = l.name.now;
-  placing = texts l.placing.now;
-  least = l.row.least;
-  greatest = l.row.greatest;
-  elements = map element_meant l.elements.now;
-  pairs = l.pairs.now;
+abbrev pub row_meant : TableRow → GuideRow
+row_meant r = record {
+  name = r.name.now;
+  placing = texts r.placing.now;
+  least = r.told.least;
+  greatest = r.told.greatest;
+  elements = map element_meant r.elements.now;
+  pairs = r.pairs.now;
 }
 
-abbrev pub standing_meant : Line → Standing
-standing_meant l = record { depth = l.row.depth; inner = l.row.inner; this = row_meant l }
+abbrev pub standing_meant : TableRow → Standing
+standing_meant r = record { depth = r.told.depth; inner = r.told.inner; this = row_meant r }
 
-abbrev pub row_told : Line → Row
-row_told l = l.row
+abbrev pub told_of : TableRow → Row
+told_of r = r.told
 
--- The lines stand as the rows of the meaning do, and tell of themselves what these tell.
-abbrev pub Means : List Line → Meaning → Type 0
-Means lines m = (map standing_meant lines ≡ standing 0 m.tree) × (map row_told lines ≡ map told (standing 0 m.tree))
+-- The rows of the table stand as the rows of the meaning do, and are told as these are.
+abbrev pub Means : List TableRow → Meaning → Type 0
+Means rows m = (map standing_meant rows ≡ standing 0 m.tree) × (map told_of rows ≡ map told (standing 0 m.tree))

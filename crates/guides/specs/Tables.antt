@@ -1,12 +1,10 @@
--- The words that the tables of the guides are written in, and what is asked of one row.
-use Rattle.std.specs.Prelude.{ℕ, min, max, Bool, List, [], ◌∷◌, length, Option}
+-- The words that the meanings of the guides are written in.
+use Rattle.std.specs.Prelude.{ℕ, min, max, List, [], ◌∷◌, length}
 use Rattle.value.specs.declared.forms.Form.{Form}
 use Rattle.value.specs.declared.forms.Form.TheVariants.{Id, D8}
 use Rattle.guide.specs.declared.rules.Need.{Need}
 use Rattle.guide.specs.declared.rules.Need.TheVariants.{Must, May}
-use Rattle.guide.specs.declared.rules.Rule.{Rule}
 use Rattle.guide.specs.Meaning.{ElementRule, GuideRow, Tree, none, branch}
-use Rattle.guide.specs.Asked.{over, test, find_rule, admits}
 
 -- The length of the shortest code of a list, and that of the longest.
 abbrev pub shortest : List (List ℕ) → ℕ
@@ -59,10 +57,3 @@ one row after = branch row none after
 
 abbrev pub loop : GuideRow → List (Tree → Tree) → Tree → Tree
 loop row rows after = branch row (in_order rows) after
-
--- A row asked for the rule of element n, and whether a value is one of its codes.
-abbrev pub rule_in : GuideRow → ℕ → Option Rule
-rule_in row n = over (λ x. x.rule) (find_rule n row.elements)
-
-abbrev pub code_in : GuideRow → ℕ → List ℕ → Bool
-code_in row n value = test (λ x. admits x.codes value) (find_rule n row.elements)

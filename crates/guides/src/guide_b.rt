@@ -3,7 +3,7 @@ ghost use Rattle.std.specs.Prelude.{◌≡◌};
 ghost use Rattle.guides.specs.GuideB.{guide_b_meaning};
 ghost use Rattle.guides.specs.Kept.{guide_b_lawful};
 
-use crate::tables::{self, Element, Line, ONCE, Tabled, element, may, must};
+use crate::tables::{self, Element, ONCE, TableRow, Tabled, element, may, must};
 use guide::guide::Guide;
 use guide::rules::{Kind, Mark, Need, Row, Rule};
 use value::forms::Form;
@@ -22,18 +22,18 @@ const UNITS: &[&[u8]] = &[b"UN", b"EA"];
 const DAY_QUALIFIERS: &[&[u8]] = &[b"067", b"068"];
 
 // The rows in order.
-const LINES: &[Line] = &[
+const ROWS: &[TableRow] = &[
     // Row 1, ST: once.
-    Line {
-        row: ONCE,
+    TableRow {
+        told: ONCE,
         name: b"ST",
         placing: &[],
         elements: &[must!(1, Id, 3, 3, &[b"855"]), must!(2, An, 1, 9)],
         pairs: &[],
     },
     // Row 2, BAK: once.
-    Line {
-        row: Row {
+    TableRow {
+        told: Row {
             elements: 9,
             ..ONCE
         },
@@ -49,8 +49,8 @@ const LINES: &[Line] = &[
         pairs: &[],
     },
     // Row 3, CUR: once.
-    Line {
-        row: ONCE,
+    TableRow {
+        told: ONCE,
         name: b"CUR",
         placing: &[],
         elements: &[
@@ -60,8 +60,8 @@ const LINES: &[Line] = &[
         pairs: &[],
     },
     // Row 4, N1 placed by BT: once.
-    Line {
-        row: Row {
+    TableRow {
+        told: Row {
             elements: 4,
             ..ONCE
         },
@@ -76,8 +76,8 @@ const LINES: &[Line] = &[
         pairs: &[],
     },
     // Row 5, N1 placed by ST: once.
-    Line {
-        row: Row {
+    TableRow {
+        told: Row {
             elements: 4,
             ..ONCE
         },
@@ -91,8 +91,8 @@ const LINES: &[Line] = &[
         pairs: &[],
     },
     // Row 6, N1 placed by VN: once.
-    Line {
-        row: Row {
+    TableRow {
+        told: Row {
             elements: 4,
             ..ONCE
         },
@@ -107,8 +107,8 @@ const LINES: &[Line] = &[
         pairs: &[],
     },
     // Row 7, PO1, a line of the order: 1 to 100,000 times. It opens a loop.
-    Line {
-        row: Row {
+    TableRow {
+        told: Row {
             inner: 4,
             greatest: 100_000,
             elements: 9,
@@ -136,8 +136,8 @@ const LINES: &[Line] = &[
         pairs: &[(8, 9), (9, 8)],
     },
     // Row 8, CTP, in the PO1 loop: at most once.
-    Line {
-        row: Row {
+    TableRow {
+        told: Row {
             depth: 1,
             least: 0,
             elements: 7,
@@ -155,8 +155,8 @@ const LINES: &[Line] = &[
         pairs: &[(2, 3), (3, 2), (6, 7), (7, 6)],
     },
     // Row 9, PID, in the PO1 loop: at most once.
-    Line {
-        row: Row {
+    TableRow {
+        told: Row {
             depth: 1,
             least: 0,
             elements: 5,
@@ -168,8 +168,8 @@ const LINES: &[Line] = &[
         pairs: &[],
     },
     // Row 10, ACK, in the PO1 loop: 1 to 104 times. It opens a loop.
-    Line {
-        row: Row {
+    TableRow {
+        told: Row {
             depth: 1,
             inner: 1,
             greatest: 104,
@@ -192,8 +192,8 @@ const LINES: &[Line] = &[
         pairs: &[(4, 5), (5, 4)],
     },
     // Row 11, SCH, in the ACK loop: at most 200 times.
-    Line {
-        row: Row {
+    TableRow {
+        told: Row {
             depth: 2,
             least: 0,
             greatest: 200,
@@ -211,16 +211,16 @@ const LINES: &[Line] = &[
         pairs: &[],
     },
     // Row 12, CTT: once.
-    Line {
-        row: ONCE,
+    TableRow {
+        told: ONCE,
         name: b"CTT",
         placing: &[],
         elements: &[must!(1, N0, 1, 6), must!(2, N0, 1, 10)],
         pairs: &[],
     },
     // Row 13, SE: once.
-    Line {
-        row: ONCE,
+    TableRow {
+        told: ONCE,
         name: b"SE",
         placing: &[],
         elements: &[must!(1, N0, 1, 10), must!(2, An, 1, 9)],
@@ -231,8 +231,8 @@ const LINES: &[Line] = &[
 impl Tabled for GuideB {
     ghost meaning = { λ _. guide_b_meaning };
 
-    fn lines(&self) -> &'static [Line] {
-        LINES
+    fn rows(&self) -> &'static [TableRow] {
+        ROWS
     }
 }
 

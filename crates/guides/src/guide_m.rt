@@ -3,7 +3,7 @@ ghost use Rattle.std.specs.Prelude.{◌≡◌};
 ghost use Rattle.guides.specs.GuideM.{guide_m_meaning};
 ghost use Rattle.guides.specs.Kept.{guide_m_lawful};
 
-use crate::tables::{self, Element, Line, ONCE, Tabled, element, may, must};
+use crate::tables::{self, Element, ONCE, TableRow, Tabled, element, may, must};
 use guide::guide::Guide;
 use guide::rules::{Kind, Mark, Need, Row, Rule};
 use value::forms::Form;
@@ -13,18 +13,18 @@ use value::forms::Form;
 pub struct GuideM;
 
 // The rows in order.
-const LINES: &[Line] = &[
+const ROWS: &[TableRow] = &[
     // Row 1, ST: once.
-    Line {
-        row: ONCE,
+    TableRow {
+        told: ONCE,
         name: b"ST",
         placing: &[],
         elements: &[must!(1, Id, 3, 3, &[b"855"]), must!(2, An, 4, 9)],
         pairs: &[],
     },
     // Row 2, BAK: once.
-    Line {
-        row: Row {
+    TableRow {
+        told: Row {
             elements: 9,
             ..ONCE
         },
@@ -41,24 +41,24 @@ const LINES: &[Line] = &[
         pairs: &[],
     },
     // Row 3, CUR: at most once.
-    Line {
-        row: Row { least: 0, ..ONCE },
+    TableRow {
+        told: Row { least: 0, ..ONCE },
         name: b"CUR",
         placing: &[],
         elements: &[must!(1, Id, 2, 2, &[b"BY"]), must!(2, Id, 3, 3)],
         pairs: &[],
     },
     // Row 4, REF placed by IA: once.
-    Line {
-        row: ONCE,
+    TableRow {
+        told: ONCE,
         name: b"REF",
         placing: &[b"IA"],
         elements: &[must!(1, Id, 2, 2, &[b"IA"]), must!(2, An, 1, 30)],
         pairs: &[],
     },
     // Row 5, N9 placed by L1: at most 1,000 times. It opens a loop.
-    Line {
-        row: Row {
+    TableRow {
+        told: Row {
             inner: 1,
             least: 0,
             greatest: 1000,
@@ -70,8 +70,8 @@ const LINES: &[Line] = &[
         pairs: &[],
     },
     // Row 6, MSG, in the N9 loop: 1 to 1,000 times.
-    Line {
-        row: Row {
+    TableRow {
+        told: Row {
             depth: 1,
             greatest: 1000,
             elements: 1,
@@ -83,8 +83,8 @@ const LINES: &[Line] = &[
         pairs: &[],
     },
     // Row 7, N1 placed by VN: 1 to 200 times.
-    Line {
-        row: Row {
+    TableRow {
+        told: Row {
             greatest: 200,
             elements: 4,
             ..ONCE
@@ -100,8 +100,8 @@ const LINES: &[Line] = &[
         pairs: &[],
     },
     // Row 8, PO1, a line of the order: 1 to 100,000 times. It opens a loop.
-    Line {
-        row: Row {
+    TableRow {
+        told: Row {
             inner: 2,
             greatest: 100_000,
             elements: 9,
@@ -123,8 +123,8 @@ const LINES: &[Line] = &[
         pairs: &[(6, 7), (7, 6), (8, 9), (9, 8)],
     },
     // Row 9, PID, in the PO1 loop: 1 to 1,000 times.
-    Line {
-        row: Row {
+    TableRow {
+        told: Row {
             depth: 1,
             greatest: 1000,
             elements: 5,
@@ -140,8 +140,8 @@ const LINES: &[Line] = &[
         pairs: &[],
     },
     // Row 10, ACK, in the PO1 loop: 1 to 104 times.
-    Line {
-        row: Row {
+    TableRow {
+        told: Row {
             depth: 1,
             greatest: 104,
             elements: 5,
@@ -160,16 +160,16 @@ const LINES: &[Line] = &[
         pairs: &[(4, 5), (5, 4)],
     },
     // Row 11, CTT: at most once.
-    Line {
-        row: Row { least: 0, ..ONCE },
+    TableRow {
+        told: Row { least: 0, ..ONCE },
         name: b"CTT",
         placing: &[],
         elements: &[must!(1, N0, 1, 6), may!(2, N0, 1, 10)],
         pairs: &[],
     },
     // Row 12, SE: once.
-    Line {
-        row: ONCE,
+    TableRow {
+        told: ONCE,
         name: b"SE",
         placing: &[],
         elements: &[must!(1, N0, 1, 10), must!(2, An, 1, 9)],
@@ -180,8 +180,8 @@ const LINES: &[Line] = &[
 impl Tabled for GuideM {
     ghost meaning = { λ _. guide_m_meaning };
 
-    fn lines(&self) -> &'static [Line] {
-        LINES
+    fn rows(&self) -> &'static [TableRow] {
+        ROWS
     }
 }
 

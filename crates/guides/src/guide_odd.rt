@@ -5,7 +5,7 @@ ghost use Rattle.std.specs.Prelude.{◌≡◌};
 ghost use Rattle.guides.specs.GuideOdd.{guide_odd_meaning};
 ghost use Rattle.guides.specs.Kept.{guide_odd_lawful};
 
-use crate::tables::{self, Element, Line, ONCE, Tabled, element, may, must};
+use crate::tables::{self, Element, ONCE, TableRow, Tabled, element, may, must};
 use guide::guide::Guide;
 use guide::rules::{Kind, Mark, Need, Row, Rule};
 use value::forms::Form;
@@ -15,18 +15,18 @@ use value::forms::Form;
 pub struct GuideOdd;
 
 // The rows in order.
-const LINES: &[Line] = &[
+const ROWS: &[TableRow] = &[
     // Row 1, ST: once.
-    Line {
-        row: ONCE,
+    TableRow {
+        told: ONCE,
         name: b"ST",
         placing: &[],
         elements: &[must!(1, Id, 3, 3, &[b"855"]), must!(2, An, 2, 6)],
         pairs: &[],
     },
     // Row 2, BAK: once.
-    Line {
-        row: Row {
+    TableRow {
+        told: Row {
             elements: 3,
             ..ONCE
         },
@@ -36,15 +36,15 @@ const LINES: &[Line] = &[
         pairs: &[],
     },
     // Row 3, REF: once. Row 4, another REF that no code tells apart from the first: once.
-    Line {
-        row: ONCE,
+    TableRow {
+        told: ONCE,
         name: b"REF",
         placing: &[],
         elements: &[must!(1, Id, 2, 3), must!(2, An, 1, 30)],
         pairs: &[],
     },
-    Line {
-        row: Row {
+    TableRow {
+        told: Row {
             elements: 3,
             ..ONCE
         },
@@ -54,8 +54,8 @@ const LINES: &[Line] = &[
         pairs: &[],
     },
     // Row 5, HL placed by 1 or by 22: 1 to 20 times. It opens the loop that PO1 stands in.
-    Line {
-        row: Row {
+    TableRow {
+        told: Row {
             inner: 4,
             greatest: 20,
             ..ONCE
@@ -66,8 +66,8 @@ const LINES: &[Line] = &[
         pairs: &[],
     },
     // Row 6, PO1, a line of the order, in the HL loop: at most 50 times. It opens a loop. PO106 has a rule by which it is unused, PO107 has none.
-    Line {
-        row: Row {
+    TableRow {
+        told: Row {
             depth: 1,
             inner: 3,
             least: 0,
@@ -86,8 +86,8 @@ const LINES: &[Line] = &[
         pairs: &[],
     },
     // Row 7, LIN, in the PO1 loop: at most 10 times. It opens a loop. If element 2 is filled, so is element 3, and not the other way round.
-    Line {
-        row: Row {
+    TableRow {
+        told: Row {
             depth: 2,
             inner: 2,
             least: 0,
@@ -102,8 +102,8 @@ const LINES: &[Line] = &[
         pairs: &[(2, 3)],
     },
     // Row 8, SLN, in the LIN loop: 2 to 5 times. It opens a loop. If element 1 is filled, so is element 4, which has no rule: each is at fault.
-    Line {
-        row: Row {
+    TableRow {
+        told: Row {
             depth: 3,
             inner: 1,
             least: 2,
@@ -118,8 +118,8 @@ const LINES: &[Line] = &[
         pairs: &[(1, 4)],
     },
     // Row 9, ACK, in the SLN loop: at most 3 times. So it stands in four loops, and two of them lie between it and the PO1 loop.
-    Line {
-        row: Row {
+    TableRow {
+        told: Row {
             depth: 4,
             least: 0,
             greatest: 3,
@@ -131,8 +131,8 @@ const LINES: &[Line] = &[
         pairs: &[],
     },
     // Row 10, SE: once.
-    Line {
-        row: ONCE,
+    TableRow {
+        told: ONCE,
         name: b"SE",
         placing: &[],
         elements: &[must!(1, N0, 1, 10), must!(2, An, 2, 6)],
@@ -143,8 +143,8 @@ const LINES: &[Line] = &[
 impl Tabled for GuideOdd {
     ghost meaning = { λ _. guide_odd_meaning };
 
-    fn lines(&self) -> &'static [Line] {
-        LINES
+    fn rows(&self) -> &'static [TableRow] {
+        ROWS
     }
 }
 

@@ -18,127 +18,12 @@ pub(crate) struct Element {
 
 // A row: as it is told, the name of its segments, the codes that place a segment here (none: any first element does), its elements that have a
 // rule, and its pair rules.
-pub(crate) struct Line {
-    pub(crate) row: Row,
+pub(crate) struct TableRow {
+    pub(crate) told: Row,
     pub(crate) name: &'static [u8],
     pub(crate) placing: &'static [&'static [u8]],
     pub(crate) elements: &'static [Element],
     pub(crate) pairs: &'static [(u8, u8)],
-}
-
-// A guide whose rows stand in a table.
-pub(crate) trait Tabled {
-    ghost meaning: { Self → Meaning };
-
-    // The rows in order.
-    fn lines(&self) -> &'static [Line]
-        ensures { Means result.now (meaning self.now) };
-}
-
-// Whether the value is one of the codes.
-fn is_among(codes: &[&[u8]], value: &[u8]) -> bool
-    ensures { result ≡ list_any (λ c. bytes_eq value.now c.now) codes.now }
-{
-    codes.contains(&value)
-}
-
-// Whether the value is one of the codes, or there are none.
-fn is_admitted(codes: &[&[u8]], value: &[u8]) -> bool
-    ensures { result ≡ admits (texts codes.now) value.now }
-{
-    codes.is_empty() || is_among(codes, value)
-}
-
-impl Line {
-    fn fits(&self, mark: Mark<'_>) -> bool
-        ensures { result ≡ matches (row_meant self.now) mark.entry.name.now mark.entry.first.now }
-    {
-        mark.name == self.name && is_admitted(self.placing, mark.first)
-    }
-
-    fn element(&self, number: u8) -> Option<&'static Element>
-        ensures { option_copied result ≡ find (λ e. number == e.number) self.now.elements.now }
-    {
-        self.elements
-            .iter()
-            .find(|element| element.number == number)
-    }
-
-    fn pairs(&self, a: u8, b: u8) -> bool
-        ensures { result ≡ list_any (λ p. (a == p.0) && b == p.1) self.now.pairs.now }
-    {
-        self.pairs.iter().any(|pair| pair.0 == a && pair.1 == b)
-    }
-
-    fn is_paired(&self, b: u8) -> bool
-        ensures { result ≡ list_any (λ p. nat_eq b p.1) self.now.pairs.now }
-    {
-        self.pairs.iter().any(|pair| pair.1 == b)
-    }
-}
-
-// The line with this number, counted from 1.
-fn line_in(lines: &'static [Line], n: u8) -> Option<&'static Line>
-    ensures { option_copied result ≡ nth lines.now n }
-{
-    match n {
-        0 => None,
-        _ => lines.get(usize::from(n) - 1),
-    }
-}
-
-// The row with this number.
-fn line_at<T: Tabled>(guide: &T, n: u8) -> Option<&'static Line>
-    ensures told { over (λ l. l.now.row) result ≡ row_of (T.meaning guide.now) n }
-    ensures stands { over (λ l. standing_meant l.now) result ≡ row_at (T.meaning guide.now) n }
-{
-    line_in(guide.lines(), n)
-}
-
-pub(crate) fn row<T: Tabled>(guide: &T, n: u8) -> Option<Row>
-    ensures { result ≡ row_of (T.meaning guide.now) n }
-{
-    line_at(guide, n).map(|line| line.row)
-}
-
-pub(crate) fn fits<T: Tabled>(guide: &T, n: u8, mark: Mark<'_>) -> bool
-    ensures { result ≡ fits_row (T.meaning guide.now) n mark.entry.name.now mark.entry.first.now }
-{
-    match line_at(guide, n) {
-        Some(line) => line.fits(mark),
-        None => false,
-    }
-}
-
-// The element of the row that has a rule.
-fn element_at<T: Tabled>(guide: &T, n: u8, number: u8) -> Option<&'static Element>
-    ensures { over (λ e. element_meant e.now) result ≡ element_at (T.meaning guide.now) n number }
-{
-    line_at(guide, n)?.element(number)
-}
-
-pub(crate) fn rule<T: Tabled>(guide: &T, n: u8, number: u8) -> Option<Rule>
-    ensures { result ≡ rule_of (T.meaning guide.now) n number }
-{
-    element_at(guide, n, number).map(|element| element.rule)
-}
-
-pub(crate) fn is_code<T: Tabled>(guide: &T, n: u8, number: u8, value: &[u8]) -> bool
-    ensures { result ≡ is_code (T.meaning guide.now) n number value.now }
-{
-    element_at(guide, n, number).is_some_and(|element| is_admitted(element.codes, value))
-}
-
-pub(crate) fn pairs<T: Tabled>(guide: &T, n: u8, a: u8, b: u8) -> bool
-    ensures { result ≡ pairs_in (T.meaning guide.now) n a b }
-{
-    line_at(guide, n).is_some_and(|line| line.pairs(a, b))
-}
-
-pub(crate) fn paired<T: Tabled>(guide: &T, n: u8, b: u8) -> bool
-    ensures { result ≡ paired_to (T.meaning guide.now) n b }
-{
-    line_at(guide, n).is_some_and(|line| line.is_paired(b))
 }
 
 // A row that stands in no loop, opens none, is used once and has rules for two elements.
@@ -190,3 +75,123 @@ macro_rules! may {
 pub(crate) use element;
 pub(crate) use may;
 pub(crate) use must;
+
+// A guide whose rows stand in a table.
+pub(crate) trait Tabled {
+    ghost meaning: { Self → Meaning };
+
+    // The rows in order.
+    fn rows(&self) -> &'static [TableRow]
+        ensures { Means result.now (meaning self.now) };
+}
+
+// Whether the value is one of the codes.
+fn is_among(codes: &[&[u8]], value: &[u8]) -> bool
+    ensures { result ≡ list_any (λ c. bytes_eq value.now c.now) codes.now }
+{
+    codes.contains(&value)
+}
+
+// Whether the value is one of the codes, or there are none.
+#[tactic(auto, using(crate::proofs::Rows::admits_lem))]
+fn is_admitted(codes: &[&[u8]], value: &[u8]) -> bool
+    ensures { result ≡ admits (texts codes.now) value.now }
+{
+    codes.is_empty() || is_among(codes, value)
+}
+
+impl TableRow {
+    fn fits(&self, mark: Mark<'_>) -> bool
+        ensures { result ≡ matches (row_meant self.now) mark.entry.name.now mark.entry.first.now }
+    {
+        mark.name == self.name && is_admitted(self.placing, mark.first)
+    }
+
+    fn element(&self, number: u8) -> Option<&'static Element>
+        ensures { option_copied result ≡ find (λ e. number == e.number) self.now.elements.now }
+    {
+        self.elements
+            .iter()
+            .find(|element| element.number == number)
+    }
+
+    fn pairs(&self, a: u8, b: u8) -> bool
+        ensures { result ≡ list_any (λ p. (a == p.0) && b == p.1) self.now.pairs.now }
+    {
+        self.pairs.contains(&(a, b))
+    }
+
+    fn is_paired(&self, b: u8) -> bool
+        ensures { result ≡ list_any (λ p. nat_eq b p.1) self.now.pairs.now }
+    {
+        self.pairs.iter().any(|pair| pair.1 == b)
+    }
+}
+
+// The row of the table with this number, counted from 1.
+#[tactic(auto, using(std::proofs::lemmas::Option::gets, crate::proofs::Rows::nth_zero, crate::proofs::Rows::nth_before))]
+fn row_in(rows: &'static [TableRow], n: u8) -> Option<&'static TableRow>
+    ensures { option_copied result ≡ nth rows.now n }
+{
+    match n {
+        0 => None,
+        _ => rows.get(usize::from(n) - 1),
+    }
+}
+
+// The row of the guide's table with this number.
+#[tactic(auto, using(crate::proofs::Rows::told_lem, crate::proofs::Rows::stands_lem))]
+fn row_at<T: Tabled>(guide: &T, n: u8) -> Option<&'static TableRow>
+    ensures told { over (λ r. r.now.told) result ≡ row_of (T.meaning guide.now) n }
+    ensures stands { over (λ r. standing_meant r.now) result ≡ row_at (T.meaning guide.now) n }
+{
+    row_in(guide.rows(), n)
+}
+
+// What a table answers, as the guide's meaning does.
+pub(crate) fn row<T: Tabled>(guide: &T, n: u8) -> Option<Row>
+    ensures { result ≡ row_of (T.meaning guide.now) n }
+{
+    row_at(guide, n).map(|row| row.told)
+}
+
+pub(crate) fn fits<T: Tabled>(guide: &T, n: u8, mark: Mark<'_>) -> bool
+    ensures { result ≡ fits_row (T.meaning guide.now) n mark.entry.name.now mark.entry.first.now }
+{
+    match row_at(guide, n) {
+        Some(row) => row.fits(mark),
+        None => false,
+    }
+}
+
+// The element of the row that has a rule.
+#[tactic(auto, using(crate::proofs::Rows::element_lem))]
+fn element_at<T: Tabled>(guide: &T, n: u8, number: u8) -> Option<&'static Element>
+    ensures { over (λ e. element_meant e.now) result ≡ element_at (T.meaning guide.now) n number }
+{
+    row_at(guide, n)?.element(number)
+}
+
+pub(crate) fn rule<T: Tabled>(guide: &T, n: u8, number: u8) -> Option<Rule>
+    ensures { result ≡ rule_of (T.meaning guide.now) n number }
+{
+    element_at(guide, n, number).map(|element| element.rule)
+}
+
+pub(crate) fn is_code<T: Tabled>(guide: &T, n: u8, number: u8, value: &[u8]) -> bool
+    ensures { result ≡ is_code (T.meaning guide.now) n number value.now }
+{
+    element_at(guide, n, number).is_some_and(|element| is_admitted(element.codes, value))
+}
+
+pub(crate) fn pairs<T: Tabled>(guide: &T, n: u8, a: u8, b: u8) -> bool
+    ensures { result ≡ pairs_in (T.meaning guide.now) n a b }
+{
+    row_at(guide, n).is_some_and(|row| row.pairs(a, b))
+}
+
+pub(crate) fn paired<T: Tabled>(guide: &T, n: u8, b: u8) -> bool
+    ensures { result ≡ paired_to (T.meaning guide.now) n b }
+{
+    row_at(guide, n).is_some_and(|row| row.is_paired(b))
+}
