@@ -1,87 +1,96 @@
--- The last place of a bucket: what it says, and what one more number does to it.
-use Rattle.std.proofs.Common.{◌≡◌, ℕ, zero, suc, ◌+◌, ◌-◌, ◌<◌, ◌≤◌, cond, eqb, ◌≢◌, List, length, get_or, take, set, sym, refl, ap, ◌∙◌, subst, ⊎_elim, add-one, arith, eq-eqb, ne_eqb, eqb-true}
-use Rattle.std.proofs.lemmas.List.{get_or-take, get_or-set_same, get_or-set_other}
+-- The last number of a bucket: what it says, and what one more number does to it and to the chains.
+use Rattle.std.proofs.Common.{◌≡◌, ℕ, zero, suc, ◌<◌, ◌≤◌, cond, eqb, List, [], ◌∷◌, ◌++◌, Option, None, Some, length, get_or, set, replicate, sym, refl, ap, ◌∙◌, ⊎_elim, add-one, arith, eq-eqb, ne_eqb, eqb-true, length-set}
+use Rattle.std.proofs.lemmas.List.{get_or_append_left, get_or_push, get_or-set_same, get_or-set_other, get_or-replicate, length-replicate, length_push}
 use Rattle.std.proofs.lemmas.Bool.{cases_eq, cases_lt, cond-true, cond-false, cond_both}
 use borrow.Author.Tests.{eqb-false}
-use Rattle.seen.specs.Chains.{last_of, Headed, Chained}
+use Rattle.seen.specs.Buckets.{bucket_number}
+use Rattle.seen.specs.Chains.{last_of, Chained}
 
--- r is the last place of the bucket among the first n, or 0
-pub record Last (bs : List ℕ) (bucket n r : ℕ) : Type 0 where
-  pub within : r ≤ n
-  pub here : 0 < r → get_or bs (r - 1) 0 ≡ bucket
-  pub past : (i : ℕ) → r ≤ i → i < n → get_or bs i 0 ≡ bucket → ⊥
+-- the bucket of the number at i
+abbrev pub bucket_at : List (List ℕ) → ℕ → ℕ
+bucket_at ns i = bucket_number (get_or ns i [])
 
-pub last_is : (bs : List ℕ) (b n : ℕ) → Last bs b n (last_of bs b n)
-last_is bs b zero = record { within = omega arith; here = λ h. absurd (omega arith); past = λ i from lt e. omega arith }
-last_is bs b (suc n) =
-    cond_both (eqb (get_or bs n 0) b) (suc n) (last_of bs b n) (Last bs b (suc n))
-    (λ e.
-    let same : suc n - 1 ≡ n = omega arith in
-    record {
+-- how many numbers there are up to the index
+abbrev pub up_to : Option ℕ → ℕ
+up_to None = 0
+up_to (Some i) = suc i
+
+-- o is the index of the last number of the bucket among the first n, if there is one
+pub record Last (ns : List (List ℕ)) (bucket n : ℕ) (o : Option ℕ) : Type 0 where
+  pub within : up_to o ≤ n
+  pub here : (i : ℕ) → o ≡ Some i → bucket_at ns i ≡ bucket
+  pub past : (i : ℕ) → up_to o ≤ i → i < n → bucket_at ns i ≡ bucket → ⊥
+
+pub last_is : (ns : List (List ℕ)) (b n : ℕ) → Last ns b n (last_of ns b n)
+last_is ns b zero = record { within = omega arith; here = λ i e. absurd cc; past = λ i from lt q. omega arith }
+last_is ns b (suc n) =
+    cond_both (eqb (bucket_at ns n) b) (Some n) (last_of ns b n) (Last ns b (suc n))
+    (λ e. record {
       within = omega arith;
-      here = λ h. ap (λ k. get_or bs k 0) same ∙ eqb-true (get_or bs n 0) b e;
+      here = λ i s. let same : n ≡ i = cc in ap (bucket_at ns) (sym same) ∙ eqb-true (bucket_at ns n) b e;
       past = λ i from lt q. omega arith;
     })
     (λ e.
-    let less = last_is bs b n in
+    let less = last_is ns b n in
     record {
       within = omega (arith, less.within);
       here = less.here;
-      past = λ i from lt q. ⊎_elim (λ h. less.past i from h q) (λ h. let same : n ≡ i = omega arith in eqb-false (get_or bs n 0) b e (ap (λ k. get_or bs k 0) same ∙ q)) (cases_lt i n);
+      past = λ i from lt q. ⊎_elim (λ h. less.past i from h q) (λ h. let same : n ≡ i = omega arith in eqb-false (bucket_at ns n) b e (ap (bucket_at ns) same ∙ q)) (cases_lt i n);
     })
 
--- what stands at c or beyond says nothing of the first n, where n is at most c
-pub last_set : (bs : List ℕ) (c v b n : ℕ) → n ≤ c → last_of (set bs c v) b n ≡ last_of bs b n
-last_set bs c v b zero le = refl
-last_set bs c v b (suc n) le =
-    let ne : n ≢ c = omega arith in
-    ap (λ x. cond (eqb x b) (suc n) (last_of (set bs c v) b n)) (get_or-set_other bs c n v 0 ne)
-    ∙ ap (λ r. cond (eqb (get_or bs n 0) b) (suc n) r) (last_set bs c v b n (omega arith))
+-- one more number says nothing of those before it
+last_before : (ns : List (List ℕ)) (x : List ℕ) (b n : ℕ) → n ≤ length ns → last_of (ns ++ x ∷ []) b n ≡ last_of ns b n
+last_before ns x b zero le = refl
+last_before ns x b (suc n) le =
+    ap (λ y. cond (eqb (bucket_number y) b) (Some n) (last_of (ns ++ x ∷ []) b n)) (get_or_append_left ns (x ∷ []) [] n (omega arith))
+    ∙ ap (λ o. cond (eqb (bucket_at ns n) b) (Some n) o) (last_before ns x b n (omega arith))
 
-pub last_take : (bs : List ℕ) (m b n : ℕ) → n ≤ m → last_of (take m bs) b n ≡ last_of bs b n
-last_take bs m b zero le = refl
-last_take bs m b (suc n) le =
-    ap (λ x. cond (eqb x b) (suc n) (last_of (take m bs) b n)) (get_or-take m bs n 0 le)
-    ∙ ap (λ r. cond (eqb (get_or bs n 0) b) (suc n) r) (last_take bs m b n (omega arith))
+-- it is the last one of its bucket
+last_more : (ns : List (List ℕ)) (x : List ℕ) (b : ℕ) → last_of (ns ++ x ∷ []) b (length (ns ++ x ∷ [])) ≡ cond (eqb (bucket_number x) b) (Some (length ns)) (last_of ns b (length ns))
+last_more ns x b =
+    ap (last_of (ns ++ x ∷ []) b) (length_push ns x ∙ add-one (length ns))
+    ∙ ap (λ y. cond (eqb (bucket_number y) b) (Some (length ns)) (last_of (ns ++ x ∷ []) b (length ns))) (get_or_push ns x [] (length ns) refl)
+    ∙ ap (λ o. cond (eqb (bucket_number x) b) (Some (length ns)) o) (last_before ns x b (length ns) (omega arith))
 
--- one more, of the bucket or of another
-last_more_here : (bs : List ℕ) (b n : ℕ) → get_or bs n 0 ≡ b → last_of bs b (n + 1) ≡ n + 1
-last_more_here bs b n e =
-    ap (last_of bs b) (add-one n) ∙ cond-true (eqb (get_or bs n 0) b) (suc n) (last_of bs b n) (eq-eqb (get_or bs n 0) b e) ∙ sym (add-one n)
+-- no number is chained to another
+pub chained_none : Chained [] [] (replicate 4096 None)
+chained_none = record {
+  whole = length-replicate {A = Option ℕ} 4096 None;
+  headed = λ b lt. get_or-replicate 4096 b None None lt;
+  linked = λ i lt. absurd (omega arith);
+}
 
-last_more_other : (bs : List ℕ) (b n : ℕ) → (get_or bs n 0 ≡ b → ⊥) → last_of bs b (n + 1) ≡ last_of bs b n
-last_more_other bs b n ne =
-    ap (last_of bs b) (add-one n) ∙ cond-false (eqb (get_or bs n 0) b) (suc n) (last_of bs b n) (ne_eqb (get_or bs n 0) b ne)
-
-module _ (bs : List ℕ) (heads : List ℕ) (n b : ℕ) (room : n < length bs) (headed : Headed bs heads n) where
-  pub headed_add : b < length heads → Headed (set bs n b) (set heads b (n + 1)) (n + 1)
-  headed_add known k lt =
+module _ (ns : List (List ℕ)) (older heads : List (Option ℕ)) (x : List ℕ) (chained : Chained ns older heads) (known : bucket_number x < 4096) (beside : length older ≡ length ns) where
+  headed_add : (b : ℕ) → b < 4096 → get_or (set heads (bucket_number x) (Some (length ns))) b None ≡ last_of (ns ++ x ∷ []) b (length (ns ++ x ∷ []))
+  headed_add b lt =
       ⊎_elim
-      (λ (e : k ≡ b).
-      ap (λ j. get_or (set heads b (n + 1)) j 0) e
-      ∙ get_or-set_same heads b (n + 1) 0 known
-      ∙ sym (last_more_here (set bs n b) k n (get_or-set_same bs n b 0 room ∙ sym e)))
+      (λ (e : bucket_number x ≡ b).
+      ap (λ k. get_or (set heads k (Some (length ns))) b None) e
+      ∙ get_or-set_same heads b (Some (length ns)) None (omega (arith, chained.whole))
+      ∙ sym (last_more ns x b ∙ cond-true (eqb (bucket_number x) b) (Some (length ns)) (last_of ns b (length ns)) (eq-eqb (bucket_number x) b e)))
       (λ ne.
-      get_or-set_other heads b k (n + 1) 0 ne
-      ∙ headed k lt
-      ∙ sym (last_set bs n b k n (omega arith))
-      ∙ sym (last_more_other (set bs n b) k n (λ q. ne (sym q ∙ get_or-set_same bs n b 0 room))))
-      (cases_eq k b)
+      get_or-set_other heads (bucket_number x) b (Some (length ns)) None (λ q. ne (sym q))
+      ∙ chained.headed b lt
+      ∙ sym (last_more ns x b ∙ cond-false (eqb (bucket_number x) b) (Some (length ns)) (last_of ns b (length ns)) (ne_eqb (bucket_number x) b ne)))
+      (cases_eq (bucket_number x) b)
 
-  pub chained_add : (older : List ℕ) → n < length older → b < 4096 → Chained bs older n → Chained (set bs n b) (set older n (get_or heads b 0)) (n + 1)
-  chained_add older fits known chained i lt =
+  linked_add : (i : ℕ) → i < length (ns ++ x ∷ []) → get_or (older ++ get_or heads (bucket_number x) None ∷ []) i None ≡ last_of (ns ++ x ∷ []) (bucket_at (ns ++ x ∷ []) i) i
+  linked_add i lt =
       ⊎_elim
       (λ h.
-      let ne : i ≢ n = omega arith in
-      get_or-set_other older n i (get_or heads b 0) 0 ne
-      ∙ chained i h
-      ∙ sym (last_set bs n b (get_or bs i 0) i (omega arith))
-      ∙ ap (λ k. last_of (set bs n b) k i) (sym (get_or-set_other bs n i b 0 ne)))
+      get_or_append_left older (get_or heads (bucket_number x) None ∷ []) None i (omega arith)
+      ∙ chained.linked i h
+      ∙ sym (last_before ns x (bucket_at ns i) i (omega arith))
+      ∙ ap (λ y. last_of (ns ++ x ∷ []) (bucket_number y) i) (sym (get_or_append_left ns (x ∷ []) [] i h)))
       (λ h.
-      let same : n ≡ i = omega arith in
-      subst (λ (j : ℕ). get_or (set older n (get_or heads b 0)) j 0 ≡ last_of (set bs n b) (get_or (set bs n b) j 0) j) same
-      (get_or-set_same older n (get_or heads b 0) 0 fits
-      ∙ headed b known
-      ∙ sym (last_set bs n b b n (omega arith))
-      ∙ ap (λ k. last_of (set bs n b) k n) (sym (get_or-set_same bs n b 0 room))))
-      (cases_lt i n)
+      let same : i ≡ length ns = omega (arith, length_push ns x) in
+      get_or_push older (get_or heads (bucket_number x) None) None i (omega arith)
+      ∙ chained.headed (bucket_number x) known
+      ∙ sym (last_before ns x (bucket_number x) (length ns) (omega arith))
+      ∙ ap (last_of (ns ++ x ∷ []) (bucket_number x)) (sym same)
+      ∙ ap (λ y. last_of (ns ++ x ∷ []) (bucket_number y) i) (sym (get_or_push ns x [] i (sym same))))
+      (cases_lt i (length ns))
+
+  -- one more number, which is chained to the last one of its bucket, and is then the last one
+  pub chained_add : Chained (ns ++ x ∷ []) (older ++ get_or heads (bucket_number x) None ∷ []) (set heads (bucket_number x) (Some (length ns)))
+  chained_add = record { whole = length-set heads (bucket_number x) (Some (length ns)) ∙ chained.whole; headed = headed_add; linked = linked_add }

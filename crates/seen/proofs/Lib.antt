@@ -1,5 +1,4 @@
-pub mod Kept
 pub mod Comes
 pub mod Lasts
-pub mod Spreads
 pub mod Walks
+pub mod Entered

@@ -1,15 +1,15 @@
--- Chains of places, one for each bucket. A place is one more than an index, and 0 tells that there is none.
-use Rattle.std.specs.Prelude.{◌≡◌, ℕ, zero, suc, ◌<◌, cond, List, ◌==◌, slice_index}
+-- Chains of numbers, one for each bucket.
+use Rattle.std.specs.Prelude.{◌≡◌, ℕ, zero, suc, ◌<◌, cond, List, [], Option, None, Some, length, ◌==◌, slice_index_or}
+use Rattle.seen.specs.Buckets.{bucket_number}
 
--- the last place among the first n of a list of buckets that has the bucket, or 0 if there is none
-abbrev pub last_of : List ℕ → ℕ → ℕ → ℕ
-last_of bs bucket zero = 0
-last_of bs bucket (suc n) = let less = last_of bs bucket n in cond (slice_index bs n == bucket) (suc n) less
+-- the index of the last of the first n numbers that is in the bucket, if one is
+abbrev pub last_of : List (List ℕ) → ℕ → ℕ → Option ℕ
+last_of ns bucket zero = None
+last_of ns bucket (suc n) = let less = last_of ns bucket n in cond (bucket_number (slice_index_or ns n []) == bucket) (Some n) less
 
--- the head of each bucket is its last place among the first n
-abbrev pub Headed : List ℕ → List ℕ → ℕ → Type 0
-Headed bs heads n = (bucket : ℕ) → bucket < 4096 → slice_index heads bucket ≡ last_of bs bucket n
-
--- for each of the first n, the older place is the last one before it that has its bucket
-abbrev pub Chained : List ℕ → List ℕ → ℕ → Type 0
-Chained bs older n = (i : ℕ) → i < n → slice_index older i ≡ last_of bs (slice_index bs i) i
+-- The numbers are chained: the head of each bucket is its last number, and older than each number is the last one before it in
+-- its bucket.
+pub record Chained (ns : List (List ℕ)) (older heads : List (Option ℕ)) : Type 0 where
+  pub whole : length heads ≡ 4096
+  pub headed : (bucket : ℕ) → bucket < 4096 → slice_index_or heads bucket None ≡ last_of ns bucket (length ns)
+  pub linked : (i : ℕ) → i < length ns → slice_index_or older i None ≡ last_of ns (bucket_number (slice_index_or ns i [])) i

@@ -1,6 +1,6 @@
 pub mod Came
 pub mod Buckets
 pub mod Chains
-pub mod Linked
+pub mod Entries
 pub mod ControlNumbers
 pub mod LineNumbers

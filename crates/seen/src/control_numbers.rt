@@ -1,18 +1,57 @@
-ghost use Rattle.std.specs.Prelude.{◌≡◌, ◌≤◌, length};
+ghost use Rattle.std.specs.Prelude.{◌≡◌, ◌<◌, ℕ, List, [], ◌∷◌, ◌++◌, map, length};
+ghost use Rattle.seen.specs.Came.{bytes_of, came_before};
 
-mod keeping;
+use arrayvec::ArrayVec;
+use std::marker::Model;
+use value::texts::same_bytes;
 
 // The control number of a set: that very part of the interchange.
 pub type ControlNumber<'a> = &'a [u8];
 
-// No control number: it has no bytes.
-const BLANK: ControlNumber<'static> = b"";
-
-// The control numbers of the sets of one group: the first `count` of them all, in the order in which they came.
+// The control numbers of the sets of one group, in the order in which they came.
 #[derive(Drop)]
 pub struct ControlNumbers<'a> {
-    all: [ControlNumber<'a>; 256],
-    count: usize,
-    ghost fits: { count ≤ 256 },
-    ghost whole: { length all ≡ 256 },
+    numbers: ArrayVec<ControlNumber<'a>, 256>,
+}
+
+impl<'a> Model for ControlNumbers<'a> {
+    ghost Value = { List (List ℕ) };
+
+    ghost view = { λ s. map bytes_of s.numbers.items };
+}
+
+impl<'a> ControlNumbers<'a> {
+    // None so far.
+    pub fn new() -> Self
+        ensures { result ≡ [] }
+    {
+        ControlNumbers {
+            numbers: ArrayVec::new(),
+        }
+    }
+
+    // Forgets them all.
+    pub fn clear(&mut self)
+        ensures { self.new ≡ [] }
+    {
+        self.numbers.clear();
+    }
+
+    // Whether the number came before, by bytes.
+    pub fn has(&self, number: &[u8]) -> bool
+        ensures { result ≡ came_before number.now self.now }
+    {
+        self.numbers
+            .as_slice()
+            .iter()
+            .any(|n| same_bytes(number, n))
+    }
+
+    // Puts the number after the others.
+    pub fn add(&mut self, number: ControlNumber<'a>)
+        requires { length self.old < 256 }
+        ensures { self.new ≡ self.old ++ number.entry.now ∷ [] }
+    {
+        self.numbers.push(number);
+    }
 }

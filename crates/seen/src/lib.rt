@@ -2,6 +2,5 @@
 #![tactic(auto)]
 
 mod buckets;
-mod chains;
 pub mod control_numbers;
 pub mod line_numbers;

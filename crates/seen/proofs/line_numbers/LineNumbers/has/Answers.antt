@@ -1,68 +1,52 @@
-use Rattle.std.proofs.Common.{◌-◌, ◌<◌, ◌≤◌, [], length, sym, ap, ◌∙◌, subst, arith, rules}
+use Rattle.std.proofs.Common.{◌<◌, length, sym, ap, ◌∙◌, subst, arith}
 use Rattle.std.specs.Str.{bytes_eq}
+use Rattle.seen.specs.Came.{came_before}
 use Rattle.seen.specs.Chains.{last_of}
-use Rattle.seen.specs.Linked.{buckets_of}
-use Rattle.seen.specs.LineNumbers.{numbers_of}
-use Rattle.seen.proofs.Kept.{length_kept, at_kept}
+use Rattle.seen.specs.Entries.{entered}
 use Rattle.seen.proofs.Comes.{came_at, came_none}
+use Rattle.seen.proofs.Lasts.{up_to}
+use Rattle.seen.proofs.Entered.{at_entered, at_olders}
 use Rattle.seen.proofs.Walks.{Walk, walk_start, walk_more, nearer}
 use Rattle.seen.proofs.line_numbers.LineNumbers.has.Goals as goal
 
-pub loop-place-init : goal.loop-place-init
-loop-place-init c =
-    let s = c.args.self.now in
+pub loop-next-init : goal.loop-next-init
+loop-next-init c =
+    let ns = entered c.self.inside.entries.items in
     let v = c.args.number.now in
-    let room : c.args.self.now.chains.count ≤ length c.args.self.now.room.all = omega (arith, s.whole, s.chains.fits) in
-    let start = walk_start (numbers_of s) (buckets_of s.chains) v s.spread s.chains.count (sym (length_kept s.room.all s.chains.count room)) in
-    let e = c.last-place.ensures ∙ ap (λ b. last_of (buckets_of s.chains) b s.chains.count) c.bucket_of.ensures.is in
-    subst (Walk (numbers_of s) (buckets_of s.chains) v) (sym e) start
-
-pub offset_bounds-self-place : goal.offset_bounds-self-place
-offset_bounds-self-place c =
-    let s = c.args.self.now in
-    let room : c.args.self.now.chains.count ≤ length c.args.self.now.room.all = omega (arith, s.whole, s.chains.fits) in
-    let small : c.loop-place.place ≤ 16384 = omega (arith, s.chains.fits, c.loop-place.invariant.within, length_kept s.room.all s.chains.count room) in
-    search rules
-
-pub bounds-self-place : goal.bounds-self-place
-bounds-self-place c =
-    let s = c.args.self.now in
-    let room : c.args.self.now.chains.count ≤ length c.args.self.now.room.all = omega (arith, s.whole, s.chains.fits) in
-    omega (arith, s.chains.fits, c.loop-place.invariant.within, length_kept s.room.all s.chains.count room)
+    let e = c.self.invariant.headed c.bucket_of.result c.bucket_of.ensures.fits ∙ ap (λ b. last_of ns b (length ns)) c.bucket_of.ensures.is in
+    subst (Walk ns v) (sym e) (walk_start ns v)
 
 pub returns-then-same_bytes : goal.returns-then-same_bytes
 returns-then-same_bytes c =
-    let s = c.args.self.now in
+    let items = c.self.inside.entries.items in
     let v = c.args.number.now in
-    let i = c.loop-place.place - 1 in
-    let room : c.args.self.now.chains.count ≤ length c.args.self.now.room.all = omega (arith, s.whole, s.chains.fits) in
-    let kept = length_kept s.room.all s.chains.count room in
-    let lt : c.loop-place.place - 1 < c.args.self.now.chains.count = omega (arith, c.loop-place.invariant.within, kept) in
-    sym (came_at v (numbers_of s) i (omega (arith, kept)) (ap (bytes_eq v) (at_kept s.room.all s.chains.count i [] _ lt room) ∙ sym c.if-same_bytes.ensures.test))
+    let i = c.in-Some.i in
+    let w = rw c.in-Some.is at c.loop-next.invariant in
+    let lt : c.in-Some.i < length (entered c.self.inside.entries.items) = omega (arith, w.within) in
+    let same = ap (bytes_eq v) (at_entered c.as_slice.result.now items i _ c.as_slice.ensures.value lt) ∙ sym c.same_bytes.ensures.test ∙ c.if-same_bytes.true in
+    sym (came_at v (entered items) i lt same) ∙ ap (came_before v) c.self.view_is
 
-pub before-place-requires : goal.before-place-requires
-before-place-requires c =
-    let s = c.args.self.now in
-    let room : c.args.self.now.chains.count ≤ length c.args.self.now.room.all = omega (arith, s.whole, s.chains.fits) in
-    (omega arith, omega (arith, c.loop-place.invariant.within, length_kept s.room.all s.chains.count room))
+pub loop-next-smaller : goal.loop-next-smaller
+loop-next-smaller c =
+    let items = c.self.inside.entries.items in
+    let i = c.in-Some.i in
+    let w = rw c.in-Some.is at c.loop-next.invariant in
+    let lt : c.in-Some.i < length (entered c.self.inside.entries.items) = omega (arith, w.within) in
+    nearer (entered items) c.args.number.now i _ _ (at_olders c.as_slice.result.now items i _ c.as_slice.ensures.value lt ∙ c.self.invariant.linked i lt) c.in-Some.is
 
-pub loop-place-smaller : goal.loop-place-smaller
-loop-place-smaller c =
-    let s = c.args.self.now in
-    omega (arith, c.before-place.ensures, nearer (numbers_of s) (buckets_of s.chains) c.args.number.now s.spread c.loop-place.place c.loop-place-test.true)
-
-pub loop-place-preserved : goal.loop-place-preserved
-loop-place-preserved c =
-    let s = c.args.self.now in
+pub loop-next-preserved : goal.loop-next-preserved
+loop-next-preserved c =
+    let items = c.self.inside.entries.items in
     let v = c.args.number.now in
-    let i = c.loop-place.place - 1 in
-    let room : c.args.self.now.chains.count ≤ length c.args.self.now.room.all = omega (arith, s.whole, s.chains.fits) in
-    let lt : c.loop-place.place - 1 < c.args.self.now.chains.count = omega (arith, c.loop-place.invariant.within, length_kept s.room.all s.chains.count room) in
-    let other = ap (bytes_eq v) (at_kept s.room.all s.chains.count i [] _ lt room) ∙ sym c.if-same_bytes.ensures.test in
-    let more = walk_more (numbers_of s) (buckets_of s.chains) v s.spread c.loop-place.place c.loop-place.invariant c.loop-place-test.true other in
-    subst (Walk (numbers_of s) (buckets_of s.chains) v) (sym c.before-place.ensures) more
+    let i = c.in-Some.i in
+    let w = rw c.in-Some.is at c.loop-next.invariant in
+    let lt : c.in-Some.i < length (entered c.self.inside.entries.items) = omega (arith, w.within) in
+    let other = ap (bytes_eq v) (at_entered c.as_slice.result.now items i _ c.as_slice.ensures.value lt) ∙ sym c.same_bytes.ensures.test ∙ c.if-same_bytes.false in
+    let older = at_olders c.as_slice.result.now items i _ c.as_slice.ensures.value lt ∙ c.self.invariant.linked i lt in
+    subst (Walk (entered items) v) (sym older) (walk_more (entered items) v i w other)
 
 pub returns : goal.returns
 returns c =
-    let s = c.args.self.now in
-    sym (came_none c.args.number.now (numbers_of s) (λ i lt. c.loop-place.invariant.past i (omega arith) lt))
+    let ns = entered c.self.inside.entries.items in
+    let v = c.args.number.now in
+    sym (came_none v ns (λ i lt. c.loop-next.invariant.past i (omega (arith, ap up_to c.in_default.is)) lt)) ∙ ap (came_before v) c.self.view_is
