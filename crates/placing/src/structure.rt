@@ -9,25 +9,22 @@ use crate::marks::mark_of;
 use crate::placer::Placer;
 use guide::guide::Guide;
 use x12::faults::Fault;
-use x12::header::read_header;
-use x12::parts::Delimiters;
+use x12::parts::Interchange;
 use x12::scans::scan;
-use x12::segments::Segments;
 
-// The segments of an interchange with these delimiters, placed one after the other: how many they are, or the fault of structure that is met.
+// The segments of an interchange, placed one after the other: how many they are, or the fault of structure that is met.
 fn place_segments<G: Guide>(
     guide: &G,
-    interchange: &[u8],
-    delimiters: Delimiters,
+    interchange: &Interchange<'_>,
 ) -> Result<usize, SegmentFault>
-    ensures { delimiters.terminator ≡ terminator_of interchange.now → delimiters.separator ≡ separator_of interchange.now
+    ensures { interchange.now.delimiters.terminator ≡ terminator_of interchange.now.bytes.now → interchange.now.delimiters.separator ≡ separator_of interchange.now.bytes.now
         → MatchResult result
-        (λ n. NoneOf (StructureMet (G.meaning guide.now) interchange.now) × (n ≡ length (segments_of interchange.now)))
-        (λ f. First (StructureMet (G.meaning guide.now) interchange.now) (cause_of_segment f)) }
+        (λ n. NoneOf (StructureMet (G.meaning guide.now) interchange.now.bytes.now) × (n ≡ length (segments_of interchange.now.bytes.now)))
+        (λ f. First (StructureMet (G.meaning guide.now) interchange.now.bytes.now) (cause_of_segment f)) }
 {
     let mut placer = Placer::start();
     let mut count = 0;
-    for segment in Segments::new(interchange, delimiters) {
+    for segment in interchange.segments() {
         count = segment.number;
         if placer.place(guide, count, mark_of(&segment)).is_none() {
             return Err(SegmentFault::Misplaced {
@@ -39,7 +36,7 @@ fn place_segments<G: Guide>(
     if !placer.is_whole() {
         return Err(SegmentFault::Incomplete {
             segment: count + 1,
-            place: interchange.len(),
+            place: interchange.bytes.len(),
         });
     }
     Ok(count)
@@ -51,8 +48,8 @@ pub fn check_structure<G: Guide>(guide: &G, interchange: &[u8]) -> Result<usize,
         (λ n. NoneOf (SegmentMet (G.meaning guide.now) interchange.now) × (n ≡ length (segments_of interchange.now)))
         (λ f. First (SegmentMet (G.meaning guide.now) interchange.now) (cause_of_segment f)) }
 {
-    let delimiters = read_header(interchange)?;
-    let placed = place_segments(guide, interchange, delimiters);
+    let read = Interchange::read(interchange)?;
+    let placed = place_segments(guide, &read);
     let Err(bytes) = scan(interchange) else {
         return placed;
     };

@@ -17,6 +17,10 @@ nth_later x xs ys zero e lt = absurd (omega arith)
 nth_later x xs ys (suc zero) e lt = absurd (omega arith)
 nth_later x xs ys (suc (suc k)) e lt = let z : suc k ≡ suc (suc k) - 1 = omega arith in ap (λ l. nth l (suc (suc k))) e ∙ ap (nth xs) z
 
+pub cases_zero : (k n : ℕ) → n ≡ 0 → (k ≡ 0) ⊎ (n < k)
+cases_zero zero n e = inl refl
+cases_zero (suc k) n e = inr (omega arith)
+
 nth_zero : {A : Type 0} (xs : List A) → nth xs 0 ≡ None
 nth_zero [] = refl
 nth_zero (x ∷ xs) = refl

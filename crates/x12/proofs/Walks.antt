@@ -1,59 +1,77 @@
 -- A walk over the segments of an interchange, one segment a turn.
-use Rattle.std.proofs.Common.{◌≡◌, ℕ, suc, ◌+◌, List, [], length, Ok, Err, Result, sym, ap, ◌∙◌, subst, add-one, ◌≤◌, arith}
+use Rattle.std.proofs.Common.{◌≡◌, ℕ, suc, ◌+◌, ◌≤◌, List, [], length, Ok, Err, Result, sym, refl, ap, ◌∙◌, subst, add-one, arith}
 use Rattle.x12.specs.declared.parts.Delimiters.{Delimiters}
+use Rattle.x12.specs.declared.parts.Interchange.{Interchange}
 use Rattle.x12.specs.declared.parts.Segment.{Segment}
 use Rattle.x12.specs.declared.segments.Segments.{Segments}
 use Rattle.x12.specs.Lists.{each}
 use Rattle.x12.specs.Segments as S
-use Rattle.x12.specs.Segments.{segments_from, FirstFrom}
+use Rattle.x12.specs.Header.{terminator_of}
+use Rattle.x12.specs.Segments.{segments_from, segments_of, FirstFrom}
 use Rattle.x12.specs.Views.{plain}
 use Rattle.x12.specs.Comes.{NextSegment}
 use Rattle.x12.proofs.Turns.{each_stop, each_on}
 
--- the iterator goes over the interchange with its delimiters
-pub record On (I : List ℕ) (d : Delimiters) (s : Segments) : Type 0 where
-  pub within : s.interchange.now ≡ I
-  pub divided : s.delimiters ≡ d
-  pub inside : s.at ≤ length I + 1
+-- the iterator goes over the interchange
+pub record On (z : Interchange) (s : Segments) : Type 0 where
+  pub same : s.interchange ≡ z
+  pub inside : s.at ≤ length z.bytes.now + 1
 
--- a turn, said of the interchange and its delimiters
-pub record Turn (I : List ℕ) (d : Delimiters) (s : Segments) (x : Segment) (t : Segments) : Type 0 where
-  pub first : FirstFrom I d.terminator s.at x.place x.bytes.now x.closed
+-- a turn, said of the interchange
+pub record Turn (z : Interchange) (s : Segments) (x : Segment) (t : Segments) : Type 0 where
+  pub first : FirstFrom z.bytes.now z.delimiters.terminator s.at x.place x.bytes.now x.closed
   pub numbered : x.number ≡ suc s.count
-  pub delimited : x.delimiters ≡ d
-  pub on : On I d t
+  pub delimited : x.delimiters ≡ z.delimiters
+  pub on : On z t
   pub behind : t.at ≡ x.place + length x.bytes.now + 1
   pub counted : t.count ≡ x.number
 
-module _ (I : List ℕ) (d : Delimiters) (s : Segments) (o : On I d s) where
-  pub turn : (x : Segment) (t : Segments) → NextSegment s x t → Turn I d s x t
+-- before the first turn
+pub record Started (I : List ℕ) (s : Segments) : Type 0 where
+  pub on : On s.interchange s
+  pub within : s.interchange.bytes.now ≡ I
+  pub first : s.at ≡ 0
+  pub none : s.count ≡ 0
+
+pub started : (I : List ℕ) (made s : Segments) (read : Interchange) → s ≡ made → (made.interchange ≡ read) × (made.at ≡ 0) × (made.count ≡ 0) → read.bytes.now ≡ I → Started I s
+started I made s read e m w =
+    let a : s.at ≡ 0 = ap (λ x. x.at) e ∙ m.1 in
+    record {
+      on = record { same = refl; inside = omega (arith, a) };
+      within = ap (λ x. x.interchange.bytes.now) e ∙ ap (λ x. x.bytes.now) m.0 ∙ w;
+      first = a;
+      none = ap (λ x. x.count) e ∙ m.2;
+    }
+
+-- all segments are ahead
+pub all_ahead : (I : List ℕ) (s : Segments) → Started I s → s.interchange.delimiters.terminator ≡ terminator_of I
+    → segments_from s.interchange.delimiters.terminator s.at s.interchange.bytes.now ≡ segments_of I
+all_ahead I s h t = (λ i. segments_from (t i) (h.first i) (h.within i))
+
+module _ (z : Interchange) (s : Segments) (o : On z s) where
+  pub turn : (x : Segment) (t : Segments) → NextSegment s x t → Turn z s x t
   turn x t n =
+      let f = subst (λ (y : Interchange). FirstFrom y.bytes.now y.delimiters.terminator s.at x.place x.bytes.now x.closed) o.same n.first in
       record {
-        first = subst (λ (l : List ℕ). FirstFrom l d.terminator s.at x.place x.bytes.now x.closed) o.within
-            (subst (λ (e : Delimiters). FirstFrom s.interchange.now e.terminator s.at x.place x.bytes.now x.closed) o.divided n.first);
+        first = f;
         numbered = n.numbered;
-        delimited = n.delimited ∙ o.divided;
-        on = record {
-          within = ap (λ r. r.now) n.same ∙ o.within;
-          divided = n.same_delimiters ∙ o.divided;
-          inside = (let h = subst (λ (l : List ℕ). x.place + length x.bytes.now ≤ length l) o.within n.first.inside in omega (arith, n.behind));
-        };
+        delimited = n.delimited ∙ ap (λ y. y.delimiters) o.same;
+        on = record { same = n.same ∙ o.same; inside = omega (arith, n.behind, f.inside) };
         behind = n.behind;
         counted = n.counted;
       }
 
   -- no segment is left
-  pub ended : segments_from s.delimiters.terminator s.at s.interchange.now ≡ [] → segments_from d.terminator s.at I ≡ []
-  ended e = subst (λ (l : List ℕ). segments_from d.terminator s.at l ≡ []) o.within
-      (subst (λ (x : Delimiters). segments_from x.terminator s.at s.interchange.now ≡ []) o.divided e)
+  pub ended : segments_from s.interchange.delimiters.terminator s.at s.interchange.bytes.now ≡ [] → segments_from z.delimiters.terminator s.at z.bytes.now ≡ []
+  ended e = subst (λ (y : Interchange). segments_from y.delimiters.terminator s.at y.bytes.now ≡ []) o.same e
 
   -- a check of each segment is one turn on, or refuses this segment
   module _ {F : Type 0} (check : ℕ → S.Segment → Result (Unit {0}) F) (x : Segment) (t : Segments) (n : NextSegment s x t) where
-    pub stops : (f : F) → check (suc s.count) (plain x) ≡ Err f → each check (suc s.count) (segments_from d.terminator s.at I) ≡ Err f
+    pub stops : (f : F) → check (suc s.count) (plain x) ≡ Err f → each check (suc s.count) (segments_from z.delimiters.terminator s.at z.bytes.now) ≡ Err f
     stops f h = each_stop check (suc s.count) _ _ _ f (turn x t n).first.next h
 
     pub goes_on : (u : Unit {0}) → check (suc s.count) (plain x) ≡ Ok u
-        → each check (suc s.count) (segments_from d.terminator s.at I) ≡ each check (suc t.count) (segments_from d.terminator t.at I)
+        → each check (suc s.count) (segments_from z.delimiters.terminator s.at z.bytes.now) ≡ each check (suc t.count) (segments_from z.delimiters.terminator t.at z.bytes.now)
     goes_on u h =
         each_on check (suc s.count) _ _ _ u (turn x t n).first.next h
-        ∙ (let k = turn x t n in λ i. each check ((add-one (suc s.count) ∙ ap suc (sym (k.counted ∙ k.numbered))) i) (segments_from d.terminator (sym k.behind i) I))
+        ∙ (let k = turn x t n in λ i. each check ((add-one (suc s.count) ∙ ap suc (sym (k.counted ∙ k.numbered))) i) (segments_from z.delimiters.terminator (sym k.behind i) z.bytes.now))

@@ -10,16 +10,15 @@ use Rattle.x12.specs.Elements.{PartOf}
 -- The next segment is the first from byte `at` on, with the next number and the delimiters of the interchange, and the others come from behind its
 -- terminator on. None comes where no segment is left.
 pub record NextSegment (s : Segments) (x : Segment) (t : Segments) : Type 0 where
-  pub first : FirstFrom s.interchange.now s.delimiters.terminator s.at x.place x.bytes.now x.closed
+  pub first : FirstFrom s.interchange.bytes.now s.interchange.delimiters.terminator s.at x.place x.bytes.now x.closed
   pub numbered : x.number ≡ suc s.count
-  pub delimited : x.delimiters ≡ s.delimiters
+  pub delimited : x.delimiters ≡ s.interchange.delimiters
   pub same : t.interchange ≡ s.interchange
-  pub same_delimiters : t.delimiters ≡ s.delimiters
   pub behind : t.at ≡ x.place + length x.bytes.now + 1
   pub counted : t.count ≡ x.number
 
 abbrev pub SegmentComes : Segments → Option Segment → Segments → Type 0
-SegmentComes s r t = MatchOption r (segments_from s.delimiters.terminator s.at s.interchange.now ≡ []) (λ x. NextSegment s x t)
+SegmentComes s r t = MatchOption r (segments_from s.interchange.delimiters.terminator s.at s.interchange.bytes.now ≡ []) (λ x. NextSegment s x t)
 
 -- the elements from byte `at` of a segment on, if there are any
 abbrev pub parts_from : Segment → Option ℕ → List Part

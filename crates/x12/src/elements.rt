@@ -6,9 +6,7 @@ ghost use Rattle.x12.specs.Views.{plain};
 ghost use Rattle.x12.specs.Elements.{element_of_segment, element_of, PartOf, HandedOut};
 
 use crate::find::find_from;
-use crate::header::read_header;
-use crate::parts::{Element, Segment};
-use crate::segments::Segments;
+use crate::parts::{Element, Interchange, Segment};
 
 // The elements of a segment that are still to come: where the next begins, if there is one, and its number.
 #[derive(Clone, Copy)]
@@ -110,10 +108,10 @@ pub fn element<'a>(interchange: &'a [u8], segment: usize, number: usize) -> Opti
         (Sound interchange.now → element_of interchange.now segment number ≡ [])
         (λ e. HandedOut interchange.now segment number e.place e.bytes.now) }
 {
-    let Ok(delimiters) = read_header(interchange) else {
+    let Ok(read) = Interchange::read(interchange) else {
         return None;
     };
-    for found in Segments::new(interchange, delimiters) {
+    for found in read.segments() {
         if found.number == segment {
             return found.element(number);
         }

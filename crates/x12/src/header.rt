@@ -7,7 +7,7 @@ ghost use Rattle.x12.specs.Checks.{header_check};
 
 use crate::classes::Class;
 use crate::faults::ByteFault;
-use crate::parts::Delimiters;
+use crate::parts::{Delimiters, Interchange};
 
 // Whether the separator has to stand at place `i` of the header.
 fn is_separator_place(i: usize) -> bool
@@ -79,4 +79,16 @@ pub fn read_header(interchange: &[u8]) -> Result<Delimiters, ByteFault>
         component,
         terminator,
     })
+}
+
+impl<'a> Interchange<'a> {
+    // The interchange with its delimiters, or why its header is refused.
+    pub fn read(bytes: &'a [u8]) -> Result<Interchange<'a>, ByteFault>
+        ensures { MatchResult result
+            (λ x. (x.bytes.now ≡ bytes.entry.now) × (header_check bytes.entry.now ≡ Ok tt) × (x.delimiters.separator ≡ separator_of bytes.entry.now) × (x.delimiters.component ≡ component_of bytes.entry.now) × (x.delimiters.terminator ≡ terminator_of bytes.entry.now))
+            (λ f. header_check bytes.entry.now ≡ Err (cause_of f)) }
+    {
+        let delimiters = read_header(bytes)?;
+        Ok(Interchange { bytes, delimiters })
+    }
 }

@@ -10,6 +10,13 @@ pub struct Delimiters {
     ghost printed: { (class_of separator ≡ 5) × (class_of component ≡ 5) × (class_of terminator ≡ 5) },
 }
 
+// An interchange with its delimiters.
+#[derive(Clone, Copy)]
+pub struct Interchange<'a> {
+    pub bytes: &'a [u8],
+    pub delimiters: Delimiters,
+}
+
 // A segment: its number, counted from 1, its place in the interchange, its bytes without the terminator, whether a terminator ends it, and the
 // delimiters of the interchange.
 #[derive(Clone, Copy)]

@@ -5,8 +5,7 @@ ghost use Rattle.x12.specs.Rank.{First, NoneOf};
 ghost use Rattle.x12.specs.Met.{Met};
 
 use crate::faults::ByteFault;
-use crate::header::read_header;
-use crate::segments::Segments;
+use crate::parts::Interchange;
 
 // The number of segments of an interchange that meets no byte fault, else the first byte fault that it meets.
 pub fn scan(interchange: &[u8]) -> Result<usize, ByteFault>
@@ -14,9 +13,9 @@ pub fn scan(interchange: &[u8]) -> Result<usize, ByteFault>
         (λ n. NoneOf (Met interchange.now) × (n ≡ length (segments_of interchange.now)))
         (λ f. First (Met interchange.now) (cause_of f)) }
 {
-    let delimiters = read_header(interchange)?;
+    let read = Interchange::read(interchange)?;
     let mut count = 0;
-    for segment in Segments::new(interchange, delimiters) {
+    for segment in read.segments() {
         segment.check()?;
         count = segment.number;
     }

@@ -2,26 +2,24 @@ ghost use Rattle.std.specs.Prelude.{◌≡◌, ◌+◌, ◌-◌, ◌≤◌, leng
 ghost use Rattle.std.specs.Iterator.{at_most};
 
 use crate::find::{find_from, skip_breaks};
-use crate::parts::{Delimiters, Segment};
+use crate::parts::{Interchange, Segment};
 
 // The segments of an interchange from byte `at` on, after `count` others.
 #[derive(Clone, Copy)]
 pub struct Segments<'a> {
-    pub interchange: &'a [u8],
-    pub delimiters: Delimiters,
+    pub interchange: Interchange<'a>,
     pub at: usize,
     pub count: usize,
     ghost counted: { count ≤ at },
 }
 
-impl<'a> Segments<'a> {
-    // All segments of an interchange with these delimiters.
-    pub fn new(interchange: &'a [u8], delimiters: Delimiters) -> Segments<'a>
-        ensures { (result.interchange.now ≡ interchange.entry.now) × (result.delimiters ≡ delimiters) × (result.at ≡ 0) × (result.count ≡ 0) }
+impl<'a> Interchange<'a> {
+    // All segments of the interchange.
+    pub fn segments(&self) -> Segments<'a>
+        ensures { (result.interchange ≡ self.now) × (result.at ≡ 0) × (result.count ≡ 0) }
     {
         Segments {
-            interchange,
-            delimiters,
+            interchange: *self,
             at: 0,
             count: 0,
         }
@@ -35,28 +33,28 @@ impl<'a> Iterator for Segments<'a> {
 
     ghost next_gives = { SegmentComes };
 
-    ghost remaining = { λ s. at_most (length s.interchange.now + 1 - s.at) };
+    ghost remaining = { λ s. at_most (length s.interchange.bytes.now + 1 - s.at) };
 
     // The next segment: line breaks are skipped, and the segment runs to the next terminator, or to the end.
     // None where only line breaks are left.
     fn next(&mut self) -> Option<Segment<'a>> {
-        let interchange = self.interchange;
-        if self.at >= interchange.len() {
+        let Interchange { bytes, delimiters } = self.interchange;
+        if self.at >= bytes.len() {
             return None;
         }
-        let place = skip_breaks(interchange, self.at);
-        if place == interchange.len() {
+        let place = skip_breaks(bytes, self.at);
+        if place == bytes.len() {
             return None;
         }
-        let end = find_from(interchange, place, self.delimiters.terminator);
+        let end = find_from(bytes, place, delimiters.terminator);
         self.at = end + 1;
         self.count += 1;
         Some(Segment {
             number: self.count,
             place,
-            bytes: &interchange[place..end],
-            closed: end < interchange.len(),
-            delimiters: self.delimiters,
+            bytes: &bytes[place..end],
+            closed: end < bytes.len(),
+            delimiters,
         })
     }
 }

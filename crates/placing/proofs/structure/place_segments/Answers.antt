@@ -11,34 +11,33 @@ pub returns-then-is_none : goal.returns-then-is_none
 returns-then-is_none g c = λ et es.
     let m = g.G.Guide.meaning c.args.guide.now in
     let it = c.loop-segment.segment-iterator in
-    let d = c.into_iter-segment-iterator.result.delimiters in
-    let q : d ≡ c.args.delimiters = search rules in
+    let z = c.args.interchange.now in
     let i = c.loop-segment.invariant.2 in
     let s = c.in-Some.segment in
-    let k = turn c.args.interchange.now d it c.loop-segment.invariant.0 s c.next.new.self c.in-Some.ensures.steps in
+    let k = turn z it c.loop-segment.invariant.0 s c.next.new.self c.in-Some.ensures.steps in
     let n : s.number ≡ suc (length i.0) = k.numbered ∙ ap suc (c.loop-segment.invariant.1 ∙ sym i.2) in
-    let same : marked c.mark_of.result ≡ mark_in d.separator (plain s) = c.mark_of.ensures ∙ ap (λ z. mark_in z.separator (plain s)) k.delimited in
-    refused_at m c.args.interchange.now d.terminator d.separator (ap (λ z. z.terminator) q ∙ et) (ap (λ z. z.separator) q ∙ es) i.0 (plain s) it.at s.number _ i.1 k.first.next n
-    (not_placed m c.loop-segment.placer c.place.new.self d.separator s.number (marked c.mark_of.result) c.place.result i.0 (plain s) c.place.ensures i.3 n same c.if-is_none.ensures)
+    let same : marked c.mark_of.result ≡ mark_in z.delimiters.separator (plain s) = c.mark_of.ensures ∙ ap (λ y. mark_in y.separator (plain s)) k.delimited in
+    refused_at m z.bytes.now z.delimiters.terminator z.delimiters.separator et es i.0 (plain s) it.at s.number _ i.1 k.first.next n
+    (not_placed m c.loop-segment.placer c.place.new.self z.delimiters.separator s.number (marked c.mark_of.result) c.place.result i.0 (plain s) c.place.ensures i.3 n same c.if-is_none.ensures)
 
 pub loop-segment-preserved : goal.loop-segment-preserved
 loop-segment-preserved g c =
     let m = g.G.Guide.meaning c.args.guide.now in
     let it = c.loop-segment.segment-iterator in
-    let d = c.into_iter-segment-iterator.result.delimiters in
+    let z = c.args.interchange.now in
     let i = c.loop-segment.invariant.2 in
     let s = c.in-Some.segment in
-    let k = turn c.args.interchange.now d it c.loop-segment.invariant.0 s c.next.new.self c.in-Some.ensures.steps in
+    let k = turn z it c.loop-segment.invariant.0 s c.next.new.self c.in-Some.ensures.steps in
     let n : s.number ≡ suc (length i.0) = k.numbered ∙ ap suc (c.loop-segment.invariant.1 ∙ sym i.2) in
-    let same : marked c.mark_of.result ≡ mark_in d.separator (plain s) = c.mark_of.ensures ∙ ap (λ z. mark_in z.separator (plain s)) k.delimited in (
+    let same : marked c.mark_of.result ≡ mark_in z.delimiters.separator (plain s) = c.mark_of.ensures ∙ ap (λ y. mark_in y.separator (plain s)) k.delimited in (
       k.on,
       k.counted,
       (
         i.0 ++ (plain s ∷ []),
-        one_on (segments_from d.terminator 0 c.args.interchange.now) i.0 (segments_from d.terminator it.at c.args.interchange.now) _ (plain s) i.1 k.first.next
-            ∙ (λ j. (i.0 ++ (plain s ∷ [])) ++ segments_from d.terminator (sym k.behind j) c.args.interchange.now),
+        one_on (segments_from z.delimiters.terminator 0 z.bytes.now) i.0 (segments_from z.delimiters.terminator it.at z.bytes.now) _ (plain s) i.1 k.first.next
+            ∙ (λ j. (i.0 ++ (plain s ∷ [])) ++ segments_from z.delimiters.terminator (sym k.behind j) z.bytes.now),
         length-append i.0 (plain s ∷ []) ∙ omega (arith, n),
-        placed_on m c.loop-segment.placer c.place.new.self d.separator s.number (marked c.mark_of.result) c.place.result i.0 (plain s) c.place.ensures i.3 n same c.if-is_none.ensures,
+        placed_on m c.loop-segment.placer c.place.new.self z.delimiters.separator s.number (marked c.mark_of.result) c.place.result i.0 (plain s) c.place.ensures i.3 n same c.if-is_none.ensures,
       ),
     )
 
@@ -46,21 +45,19 @@ pub returns-then-not-is_whole : goal.returns-then-not-is_whole
 returns-then-not-is_whole g c = λ et es.
     let m = g.G.Guide.meaning c.args.guide.now in
     let it = c.loop-segment.segment-iterator in
-    let d = c.into_iter-segment-iterator.result.delimiters in
-    let q : d ≡ c.args.delimiters = search rules in
+    let z = c.args.interchange.now in
     let i = c.loop-segment.invariant.2 in
     let k : c.loop-segment.count + 1 ≡ suc (length i.0) = (let l = i.2 in omega arith) in
-    ended_early m c.args.interchange.now d.terminator d.separator (ap (λ z. z.terminator) q ∙ et) (ap (λ z. z.separator) q ∙ es) i.0 it.at (c.loop-segment.count + 1) i.1
-    (ended c.args.interchange.now d it c.loop-segment.invariant.0 c.in-None.ensures.steps) k
+    ended_early m z.bytes.now z.delimiters.terminator z.delimiters.separator et es i.0 it.at (c.loop-segment.count + 1) i.1
+    (ended z it c.loop-segment.invariant.0 c.in-None.ensures.steps) k
     (c.if-not-is_whole.ensures m (g.G.Guide.lawful c.args.guide.now) _ i.3)
 
 pub returns : goal.returns
 returns g c = λ et es.
     let m = g.G.Guide.meaning c.args.guide.now in
     let it = c.loop-segment.segment-iterator in
-    let d = c.into_iter-segment-iterator.result.delimiters in
-    let q : d ≡ c.args.delimiters = search rules in
+    let z = c.args.interchange.now in
     let i = c.loop-segment.invariant.2 in
-    all_placed m c.args.interchange.now d.terminator d.separator (ap (λ z. z.terminator) q ∙ et) (ap (λ z. z.separator) q ∙ es) i.0 it.at c.loop-segment.count i.1
-    (ended c.args.interchange.now d it c.loop-segment.invariant.0 c.in-None.ensures.steps) i.2
+    all_placed m z.bytes.now z.delimiters.terminator z.delimiters.separator et es i.0 it.at c.loop-segment.count i.1
+    (ended z it c.loop-segment.invariant.0 c.in-None.ensures.steps) i.2
     (c.if-not-is_whole.ensures m (g.G.Guide.lawful c.args.guide.now) _ i.3)

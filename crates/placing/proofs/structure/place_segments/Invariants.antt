@@ -7,8 +7,8 @@ use Rattle.placing.proofs.structure.place_segments.Given as goal
 
 abbrev pub invariant-loop-segment : goal.invariant-loop-segment
 invariant-loop-segment g l =
-    let d = l.initial.segment-iterator.delimiters in
-    On l.interchange d l.segment-iterator × (l.segment-iterator.count ≡ l.count)
-    × ((done : List Segment) × (segments_from d.terminator 0 l.interchange ≡ done ++ segments_from d.terminator l.segment-iterator.at l.interchange)
+    let z = l.interchange in
+    On z l.segment-iterator × (l.segment-iterator.count ≡ l.count)
+    × ((done : List Segment) × (segments_from z.delimiters.terminator 0 z.bytes.now ≡ done ++ segments_from z.delimiters.terminator l.segment-iterator.at z.bytes.now)
     × (length done ≡ l.count)
-    × HasPlaced (g.G.Guide.meaning l.guide) l.placer (marks_in d.separator done))
+    × HasPlaced (g.G.Guide.meaning l.guide) l.placer (marks_in z.delimiters.separator done))

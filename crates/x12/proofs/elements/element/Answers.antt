@@ -1,41 +1,53 @@
-use Rattle.std.proofs.Common.{◌≡◌, ◌+◌, ◌-◌, length, sym, ap, ◌∙◌, arith, rules}
+use Rattle.std.proofs.Common.{◌≡◌, ◌+◌, ◌-◌, length, sym, ap, ◌∙◌, subst, arith, rules}
 use Rattle.x12.specs.declared.parts.Element.{Element}
 use Rattle.x12.specs.Causes.{cause_of}
+use Rattle.x12.specs.Header.{terminator_of}
 use Rattle.x12.specs.Lists.{nth}
-use Rattle.x12.specs.Segments.{segments_from}
+use Rattle.x12.specs.Segments.{segments_from, FirstFrom}
 use Rattle.x12.specs.Views.{plain}
 use Rattle.x12.proofs.Hands.{handed_out}
 use Rattle.x12.proofs.Headers.{never_ok, check_sound, sound_check}
-use Rattle.x12.proofs.Picks.{nth_first, nth_next}
-use Rattle.x12.proofs.Walks.{turn}
+use Rattle.x12.proofs.Picks.{cases_zero, nth_first, nth_next}
+use Rattle.x12.proofs.Walks.{started, all_ahead, turn}
 use Rattle.x12.proofs.elements.element.Goals as goal
 
 pub returns-in_default : goal.returns-in_default
 returns-in_default c s = absurd (never_ok (cause_of c.in_default.field-0) tt (sym c.in_default.ensures ∙ sound_check c.args.interchange.now s))
 
+pub loop-found-init : goal.loop-found-init
+loop-found-init c =
+    let I = c.args.interchange.now in
+    let it = c.into_iter-found-iterator.result in
+    let h = c.in-Ok.ensures in
+    let s = started c.args.interchange.now c.segments-found-items.result it c.in-Ok.read c.into_iter-found-iterator.ensures.into_iter_gives c.segments-found-items.ensures h.0 in
+    let t : it.interchange.delimiters.terminator ≡ terminator_of c.args.interchange.now = ap (λ y. y.interchange.delimiters.terminator) c.into_iter-found-iterator.ensures.into_iter_gives ∙ ap (λ y. y.delimiters.terminator) c.segments-found-items.ensures.0 ∙ h.4 in
+    let z : c.args.segment ≡ c.args.segment - it.count = omega (arith, s.none) in
+    (s.on, (cases_zero c.args.segment it.count s.none), (λ i. nth (sym (all_ahead c.args.interchange.now it s t) i) (z i)))
+
 pub returns-then-found-segment : goal.returns-then-found-segment
 returns-then-found-segment c =
     let I = c.args.interchange.now in
     let it = c.loop-found.found-iterator in
-    let d = c.into_iter-found-iterator.result.delimiters in
-    let q : d ≡ c.in-Ok.delimiters = search rules in
+    let z = c.into_iter-found-iterator.result.interchange in
+    let q : z ≡ c.in-Ok.read = search rules in
     let h = c.in-Ok.ensures in
     let x = c.in-Some.found in
-    let k = turn c.args.interchange.now d it c.loop-found.invariant.0 x c.next.new.self c.in-Some.ensures.steps in
+    let k = turn z it c.loop-found.invariant.0 x c.next.new.self c.in-Some.ensures.steps in
     let one : c.args.segment - it.count ≡ 1 = omega (arith, k.numbered, c.if-found-segment.true) in
-    handed_out c.args.interchange.now c.args.segment c.args.number x.delimiters.separator (plain x) (check_sound c.args.interchange.now tt h.0)
-    (ap (λ z. z.separator) (k.delimited ∙ q) ∙ h.1)
-    (c.loop-found.invariant.2 ∙ nth_first (plain x) (segments_from d.terminator (x.place + length x.bytes.now + 1) c.args.interchange.now) (segments_from d.terminator it.at c.args.interchange.now) (c.args.segment - it.count) k.first.next one)
-    k.first.inside k.first.part
+    let p : z.bytes.now ≡ c.args.interchange.now = ap (λ y. y.bytes.now) q ∙ h.0 in
+    let f = subst (λ l. FirstFrom l z.delimiters.terminator it.at x.place x.bytes.now x.closed) p k.first in
+    handed_out c.args.interchange.now c.args.segment c.args.number x.delimiters.separator (plain x) (check_sound c.args.interchange.now tt h.1)
+    (ap (λ y. y.separator) (k.delimited ∙ ap (λ y. y.delimiters) q) ∙ h.2)
+    (c.loop-found.invariant.2 ∙ nth_first (plain x) (segments_from z.delimiters.terminator (x.place + length x.bytes.now + 1) z.bytes.now) (segments_from z.delimiters.terminator it.at z.bytes.now) (c.args.segment - it.count) k.first.next one)
+    f.inside f.part
     (λ (e : Element). e.place) (λ (e : Element). e.bytes.now) c.element.result c.element.ensures
 
 pub loop-found-preserved : goal.loop-found-preserved
 loop-found-preserved c =
-    let I = c.args.interchange.now in
     let it = c.loop-found.found-iterator in
-    let d = c.into_iter-found-iterator.result.delimiters in
+    let z = c.into_iter-found-iterator.result.interchange in
     let x = c.in-Some.found in
-    let k = turn c.args.interchange.now d it c.loop-found.invariant.0 x c.next.new.self c.in-Some.ensures.steps in
-    let n = nth_next (plain x) (segments_from d.terminator (x.place + length x.bytes.now + 1) c.args.interchange.now) (segments_from d.terminator it.at c.args.interchange.now) c.args.segment it.count c.next.new.self.count
-    k.first.next (k.counted ∙ k.numbered) c.loop-found.invariant.1 (λ e. c.if-found-segment.false (sym k.counted ∙ e)) in
-    (k.on, n.0, c.loop-found.invariant.2 ∙ n.1 ∙ (λ i. nth (segments_from d.terminator (sym k.behind i) c.args.interchange.now) (c.args.segment - c.next.new.self.count)))
+    let k = turn z it c.loop-found.invariant.0 x c.next.new.self c.in-Some.ensures.steps in
+    let n = nth_next (plain x) (segments_from z.delimiters.terminator (x.place + length x.bytes.now + 1) z.bytes.now) (segments_from z.delimiters.terminator it.at z.bytes.now) c.args.segment it.count c.next.new.self.count
+        k.first.next (k.counted ∙ k.numbered) c.loop-found.invariant.1 (λ e. c.if-found-segment.false (sym k.counted ∙ e)) in
+    (k.on, n.0, c.loop-found.invariant.2 ∙ n.1 ∙ (λ i. nth (segments_from z.delimiters.terminator (sym k.behind i) z.bytes.now) (c.args.segment - c.next.new.self.count)))

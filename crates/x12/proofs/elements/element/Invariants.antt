@@ -6,5 +6,7 @@ use Rattle.x12.proofs.elements.element.Given as goal
 
 abbrev pub invariant-loop-found : goal.invariant-loop-found
 invariant-loop-found l =
-    On l.interchange l.initial.found-iterator.delimiters l.found-iterator × ((l.segment ≡ 0) ⊎ (l.found-iterator.count < l.segment))
-    × (nth (segments_of l.interchange) l.segment ≡ nth (segments_from l.initial.found-iterator.delimiters.terminator l.found-iterator.at l.interchange) (l.segment - l.found-iterator.count))
+    let z = l.initial.found-iterator.interchange in
+    let it = l.found-iterator in
+    On z it × ((l.segment ≡ 0) ⊎ (it.count < l.segment))
+    × (nth (segments_of l.interchange) l.segment ≡ nth (segments_from z.delimiters.terminator it.at z.bytes.now) (l.segment - it.count))

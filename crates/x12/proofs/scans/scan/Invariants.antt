@@ -7,7 +7,8 @@ use Rattle.x12.proofs.scans.scan.Given as goal
 
 abbrev pub invariant-loop-segment : goal.invariant-loop-segment
 invariant-loop-segment l =
-    On l.interchange l.initial.segment-iterator.delimiters l.segment-iterator × (l.segment-iterator.count ≡ l.count)
-    × (l.count + length (segments_from l.initial.segment-iterator.delimiters.terminator l.segment-iterator.at l.interchange) ≡ length (segments_of l.interchange))
-    × (each (segment_check l.initial.segment-iterator.delimiters.separator l.initial.segment-iterator.delimiters.component) (suc l.segment-iterator.count) (segments_from l.initial.segment-iterator.delimiters.terminator l.segment-iterator.at l.interchange)
-    ≡ each (segment_check l.initial.segment-iterator.delimiters.separator l.initial.segment-iterator.delimiters.component) 1 (segments_of l.interchange))
+    let z = l.initial.segment-iterator.interchange in
+    let check = segment_check z.delimiters.separator z.delimiters.component in
+    let ahead = segments_from z.delimiters.terminator l.segment-iterator.at z.bytes.now in
+    On z l.segment-iterator × (l.segment-iterator.count ≡ l.count) × (l.count + length ahead ≡ length (segments_of l.interchange))
+    × (each check (suc l.segment-iterator.count) ahead ≡ each check 1 (segments_of l.interchange))
