@@ -1,28 +1,23 @@
 -- The last segment of a loop, one segment on.
-use Rattle.std.proofs.Common.{◌≡◌, ℕ, suc, ◌+◌, ◌<◌, ◌≤◌, Bool, true, false, cond, leb, List, [], ◌∷◌, ◌++◌, map, length, get_or, take, drop, set, sym, refl, ap, ◌∙◌, add-one, arith}
+use Rattle.std.proofs.Common.{◌≡◌, ℕ, suc, ◌+◌, ◌<◌, ◌≤◌, Bool, true, false, cond, leb, List, [], ◌∷◌, ◌++◌, map, length, get_or, take, drop, set, sym, refl, ap, ◌∙◌, add-zero, nat_le, arith}
 use Rattle.std.proofs.lemmas.List.{at_drop_more, at_drop_all, set_at, get_or_at, map_more, drop_more, append_assoc, length-map, length-take-le, length_push, drop-map, drop_at}
 use Rattle.std.proofs.lemmas.Bool.{cond-true, cond-false, le-leb, lt-leb}
+use Rattle.std.specs.List.{prefix_len}
 use Rattle.results.specs.declared.rows.SegmentRow.{SegmentRow}
 use Rattle.results.specs.declared.rows.LoopRow.{LoopRow}
 use Rattle.placing.specs.Placed.{PlacedSegment}
 use Rattle.results.specs.Rows.{opens_at, last_from, each_loop}
 use Rattle.results.specs.Steps.{row_with_name, named_rows, open_row, open_rows, closed_row, closed_rows, last_by, close_by}
 
-module _ (xs : List SegmentRow) (j k : ℕ) (d : SegmentRow) where
-  abbrev longer : ℕ
-  longer = last_by j (suc k) (drop (k + 1) xs)
-
-  pub goes_on : k < length xs → j ≤ (get_or xs k d).around → last_by j k (drop k xs) ≡ last_by j (k + 1) (drop (k + 1) xs)
-  goes_on l h =
-      at_drop_more (last_by j k) xs k d l
-      ∙ cond-true (leb j (get_or xs k d).around) longer k (le-leb j (get_or xs k d).around h)
-      ∙ ap (λ (n : ℕ). last_by j n (drop (k + 1) xs)) (sym (add-one k))
-
-  pub stops : k < length xs → (get_or xs k d).around < j → last_by j k (drop k xs) ≡ k
-  stops l h = at_drop_more (last_by j k) xs k d l ∙ cond-false (leb j (get_or xs k d).around) longer k (lt-leb j (get_or xs k d).around h)
-
-  pub runs_out : length xs ≤ k → last_by j k (drop k xs) ≡ k
-  runs_out h = at_drop_all (last_by j k) xs k h
+-- the last segment lies as many rows on as stand in the loop
+pub last_by_is : (j k : ℕ) (xs : List SegmentRow) → last_by j k xs ≡ k + prefix_len (λ s. nat_le j s.around) xs
+last_by_is j k [] = sym (add-zero k)
+last_by_is j k (s ∷ after) = go (nat_le j s.around) (last_by_is j (suc k) after)
+  where
+    go : (t : Bool) → last_by j (suc k) after ≡ suc k + prefix_len (λ s. nat_le j s.around) after
+        → cond t (last_by j (suc k) after) k ≡ k + cond t (1 + prefix_len (λ s. nat_le j s.around) after) 0
+    go true h = h ∙ omega arith
+    go false h = sym (add-zero k)
 
 -- one more row is closed
 pub closes_more : (f : LoopRow → LoopRow) (table old : List LoopRow) (i : ℕ) (d : LoopRow) → i < length old → table ≡ map f (take i old) ++ drop i old

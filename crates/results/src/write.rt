@@ -1,5 +1,5 @@
 ghost use Rattle.std.specs.Prelude.{◌≡◌, ◌≤◌, List, length};
-ghost use Rattle.x12.specs.Segments.{segment as as_segment};
+ghost use Rattle.x12.specs.Views.{plain};
 ghost use Rattle.placing.specs.Stages.{spot_for};
 ghost use Rattle.placing.specs.Placed.{PlacedSegment};
 ghost use Rattle.results.specs.Rows.{row_shown, Fitting};
@@ -7,13 +7,12 @@ ghost use Rattle.results.specs.Steps.{row_with_name, OpensNext, Begun};
 
 use crate::rows::{LoopRow, SegmentRow};
 use guide::guide::Guide;
-use placing::marks::bytes_in;
+use placing::marks::mark_of;
 use placing::placer::{Placed, Placer};
-use x12::parts::{Delimiters, Segment};
-use x12::segments::next_segment;
+use x12::parts::{Interchange, Segment};
 
 // How many rows of each table are written.
-#[derive(Clone, Copy)]
+#[derive(Clone, Copy, Debug, PartialEq, Eq)]
 pub(crate) struct Counts {
     pub(crate) segments: usize,
     pub(crate) loops: usize,
@@ -27,8 +26,8 @@ fn shown_row(row: u8) -> u8
 }
 
 // The row of a segment in its place; the loop that its guide row stands in still goes by its opening segment.
-fn named_row(segment: Segment<'_>, placed: Placed) -> SegmentRow
-    ensures { result ≡ row_with_name (as_segment (segment.entry.place, segment.entry.bytes.now) segment.entry.closed, spot_for placed) }
+fn named_row(segment: &Segment<'_>, placed: Placed) -> SegmentRow
+    ensures { result ≡ row_with_name (plain segment.now, spot_for placed) }
 {
     SegmentRow {
         place: segment.place,
@@ -57,42 +56,30 @@ fn open_loop(loops: &mut [LoopRow], opened: usize, number: usize, placed: Placed
 // Writes a row for each segment and for each loop that is opened; loops go by their opening segments, and are not closed.
 pub(crate) fn write_rows<G: Guide>(
     guide: &G,
-    interchange: &[u8],
-    delimiters: Delimiters,
+    interchange: &Interchange<'_>,
     segments: &mut [SegmentRow],
     loops: &mut [LoopRow],
 ) -> Counts
     ensures within { (result.segments ≤ length segments.old) × (result.loops ≤ length loops.old) }
     ensures begun { (z : List PlacedSegment)
-        → Fitting (G.meaning guide.now) interchange.now delimiters.terminator delimiters.separator (length segments.old) (length loops.old) z
+        → Fitting (G.meaning guide.now) interchange.now.bytes.now interchange.now.delimiters.terminator interchange.now.delimiters.separator (length segments.old) (length loops.old) z
         → Begun z segments.old loops.old segments.new loops.new result }
 {
     let mut placer = Placer::start();
-    let mut count = 0;
-    let mut opened = 0;
-    let mut at = 0;
-    while let Some(segment) = next_segment(interchange, delimiters, at) {
-        if count >= segments.len() {
-            return Counts {
-                segments: count,
-                loops: opened,
-            };
+    let mut counts = Counts {
+        segments: 0,
+        loops: 0,
+    };
+    for segment in interchange.segments() {
+        if counts.segments >= segments.len() {
+            return counts;
         }
-        let name = bytes_in(delimiters.separator, segment, 0);
-        let first = bytes_in(delimiters.separator, segment, 1);
-        let Some(placed) = placer.place(guide, count + 1, name, first) else {
-            return Counts {
-                segments: count,
-                loops: opened,
-            };
+        let Some(placed) = placer.place(guide, segment.number, mark_of(&segment)) else {
+            return counts;
         };
-        segments[count] = named_row(segment, placed);
-        count += 1;
-        opened = open_loop(loops, opened, count, placed);
-        at = segment.place + segment.bytes.len() + 1;
+        segments[counts.segments] = named_row(&segment, placed);
+        counts.segments = segment.number;
+        counts.loops = open_loop(loops, counts.loops, segment.number, placed);
     }
-    Counts {
-        segments: count,
-        loops: opened,
-    }
+    counts
 }

@@ -1,12 +1,13 @@
-use Rattle.std.proofs.Common.{sym, ◌∙◌, arith}
-use Rattle.results.proofs.Closing.{goes_on, stops, runs_out}
+use Rattle.std.proofs.Common.{◌+◌, ◌-◌, ◌≤◌, length, drop, nat_le, sym, ◌∙◌, ap, length-drop, arith}
+use Rattle.std.proofs.lemmas.List.Sums.{prefix_len-le-length}
+use Rattle.results.proofs.Closing.{last_by_is}
 use Rattle.results.proofs.close.last_segment.Goals as goal
 
-pub loop-last-preserved : goal.loop-last-preserved
-loop-last-preserved c = sym (goes_on c.args.segments.now c.args.opening c.loop-last.last (record { place = 0; length = 0; row = 0; around = 0 }) (omega arith) (omega arith)) ∙ c.loop-last.invariant
+pub overflow_add-result : goal.overflow_add-result
+overflow_add-result c =
+    let xs = c.args.segments.now in
+    let within = prefix_len-le-length (λ s. nat_le c.args.opening s.around) (drop c.args.opening c.args.segments.now) in
+    omega (arith, within, c.rows_within.ensures, length-drop c.args.opening c.args.segments.now)
 
-pub returns-else-segments-last : goal.returns-else-segments-last
-returns-else-segments-last c = sym (stops c.args.segments.now c.args.opening c.loop-last.last (record { place = 0; length = 0; row = 0; around = 0 }) (omega arith) (omega arith)) ∙ c.loop-last.invariant
-
-pub returns-after-loop-last : goal.returns-after-loop-last
-returns-after-loop-last c = sym (runs_out c.args.segments.now c.args.opening c.loop-last.last (record { place = 0; length = 0; row = 0; around = 0 }) (omega arith)) ∙ c.loop-last.invariant
+pub returns : goal.returns
+returns c = ap (λ n. c.args.opening + n) c.rows_within.ensures ∙ sym (last_by_is c.args.opening c.args.opening (drop c.args.opening c.args.segments.now))
