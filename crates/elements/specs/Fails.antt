@@ -61,10 +61,10 @@ ElementMet m separator k z p f = (n e : ℕ) × ElementFails m separator z p n e
 -- every cause of the three lower layers with its number, layer, segment, element and place
 abbrev pub cause_of_element : ElementFault → Fault
 cause_of_element (Segment f) = cause_of_segment f
-cause_of_element (EmptyMust segment element place) = fault 8 segment element place
-cause_of_element (FilledUnused segment element place) = fault 9 segment element place
-cause_of_element (WrongLength segment element place) = fault 10 segment element place
-cause_of_element (WrongType segment element place) = fault 11 segment element place
-cause_of_element (WrongCode segment element place) = fault 12 segment element place
-cause_of_element (BrokenPair segment element place) = fault 13 segment element place
+cause_of_element (EmptyMust at) = fault 8 at.segment at.element at.place
+cause_of_element (FilledUnused at) = fault 9 at.segment at.element at.place
+cause_of_element (WrongLength at) = fault 10 at.segment at.element at.place
+cause_of_element (WrongType at) = fault 11 at.segment at.element at.place
+cause_of_element (WrongCode at) = fault 12 at.segment at.element at.place
+cause_of_element (BrokenPair at) = fault 13 at.segment at.element at.place
 cause_of_element (MissingRow segment place) = fault 13 segment 0 place

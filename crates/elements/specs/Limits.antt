@@ -6,19 +6,15 @@ use Rattle.value.specs.Types.{good_type, good_length}
 use Rattle.guide.specs.declared.rules.Rule.{Rule}
 use Rattle.guide.specs.Meaning.{ElementRule, Meaning}
 use Rattle.guide.specs.Asked.{over, test, admits}
-use Rattle.elements.specs.declared.limits.Limits.{Limits}
 use Rattle.elements.specs.Rules.{rule_at, asks_for}
 use Rattle.elements.specs.Tests.{is_must, is_unused, is_in_wrong_pair}
 
-abbrev pub limits_of : Rule → Limits
-limits_of r = record { need = r.need; form = r.form; least = r.least; greatest = r.greatest }
-
 -- a rule without its codes
-abbrev pub limits_in : ElementRule → Limits
-limits_in r = limits_of r.rule
+abbrev pub limits_in : ElementRule → Rule
+limits_in r = r.rule
 
 -- the rule of element e of row r without its codes
-abbrev pub limits_at : Meaning → ℕ → ℕ → Option Limits
+abbrev pub limits_at : Meaning → ℕ → ℕ → Option Rule
 limits_at m r e = over limits_in (rule_at m r e)
 
 -- the codes of element e of row r admit the value; where it has no rule they do not
@@ -26,23 +22,23 @@ abbrev pub admits_at : Meaning → ℕ → ℕ → List ℕ → Bool
 admits_at m r e v = test (λ x. admits x.codes v) (rule_at m r e)
 
 -- the tests of an element by its rule
-abbrev pub lacks_by : Option Limits → List ℕ → Bool
+abbrev pub lacks_by : Option Rule → List ℕ → Bool
 lacks_by o v = test (λ l. is_must l.need && not (filled v)) o
 
-abbrev pub exceeds_by : Option Limits → List ℕ → Bool
+abbrev pub exceeds_by : Option Rule → List ℕ → Bool
 exceeds_by None v = filled v
 exceeds_by (Some l) v = is_unused l.need && filled v
 
-abbrev pub judges_by : Limits → List ℕ → Bool
+abbrev pub judges_by : Rule → List ℕ → Bool
 judges_by l v = not (is_unused l.need) && filled v
 
-abbrev pub wrong_length_by : Option Limits → List ℕ → Bool
+abbrev pub wrong_length_by : Option Rule → List ℕ → Bool
 wrong_length_by o v = test (λ l. judges_by l v && not (good_length l.form l.least l.greatest v)) o
 
-abbrev pub wrong_type_by : Option Limits → List ℕ → Bool
+abbrev pub wrong_type_by : Option Rule → List ℕ → Bool
 wrong_type_by o v = test (λ l. judges_by l v && not (good_type l.form v)) o
 
-abbrev pub wrong_code_by : Option Limits → Bool → List ℕ → Bool
+abbrev pub wrong_code_by : Option Rule → Bool → List ℕ → Bool
 wrong_code_by o admitted v = test (λ l. judges_by l v && not admitted) o
 
 -- the tests of element e by what the code keeps of its rule

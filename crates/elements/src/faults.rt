@@ -3,106 +3,44 @@ ghost use Rattle.elements.specs.declared.faults.ElementFault.TheVariants.{Segmen
 ghost use Rattle.elements.specs.Fails.{cause_of_element};
 
 use placing::faults::SegmentFault;
-use x12::faults::Fault;
+use x12::faults::{Fault, Site};
 
 // The faults of bytes, structure and elements.
-#[derive(Clone, Copy)]
+#[derive(Clone, Copy, Debug, PartialEq, Eq)]
 pub enum ElementFault {
     Segment(SegmentFault),
     // A must element is empty.
-    EmptyMust {
-        segment: usize,
-        element: usize,
-        place: usize,
-    },
+    EmptyMust(Site),
     // An unused element is filled.
-    FilledUnused {
-        segment: usize,
-        element: usize,
-        place: usize,
-    },
+    FilledUnused(Site),
     // A length that the rule does not allow.
-    WrongLength {
-        segment: usize,
-        element: usize,
-        place: usize,
-    },
+    WrongLength(Site),
     // Not of the type.
-    WrongType {
-        segment: usize,
-        element: usize,
-        place: usize,
-    },
+    WrongType(Site),
     // None of the codes, or a wrong pair of the first two elements of BAK.
-    WrongCode {
-        segment: usize,
-        element: usize,
-        place: usize,
-    },
+    WrongCode(Site),
     // Empty, where a pair rule asks that it is filled.
-    BrokenPair {
-        segment: usize,
-        element: usize,
-        place: usize,
-    },
+    BrokenPair(Site),
     // SE of a set that lacks a row.
-    MissingRow {
-        segment: usize,
-        place: usize,
-    },
+    MissingRow { segment: usize, place: usize },
 }
 
-// A fault of layer 3.
-fn of_element(number: u8, segment: usize, element: usize, place: usize) -> Fault
-    ensures { result ≡ record { number = number; layer = 3; segment = segment; element = element; place = place } }
-{
-    Fault {
-        number,
-        layer: 3,
-        segment,
-        element,
-        place,
-    }
-}
+// The number, layer, segment, element and place of the fault.
+impl From<ElementFault> for Fault {
+    ghost from_gives = { λ f r. r ≡ cause_of_element f };
 
-impl ElementFault {
-    // The number, layer, segment, element and place of the fault.
-    pub fn fault(self) -> Fault
-        ensures { result ≡ cause_of_element self }
-    {
-        match self {
-            ElementFault::Segment(lower) => lower.fault(),
-            ElementFault::EmptyMust {
-                segment,
-                element,
-                place,
-            } => of_element(8, segment, element, place),
-            ElementFault::FilledUnused {
-                segment,
-                element,
-                place,
-            } => of_element(9, segment, element, place),
-            ElementFault::WrongLength {
-                segment,
-                element,
-                place,
-            } => of_element(10, segment, element, place),
-            ElementFault::WrongType {
-                segment,
-                element,
-                place,
-            } => of_element(11, segment, element, place),
-            ElementFault::WrongCode {
-                segment,
-                element,
-                place,
-            } => of_element(12, segment, element, place),
-            ElementFault::BrokenPair {
-                segment,
-                element,
-                place,
-            } => of_element(13, segment, element, place),
-            ElementFault::MissingRow { segment, place } => of_element(13, segment, 0, place),
+    fn from(fault: ElementFault) -> Fault {
+        match fault {
+            ElementFault::Segment(lower) => Fault::from(lower),
+            ElementFault::EmptyMust(at) => Fault::new(8, at),
+            ElementFault::FilledUnused(at) => Fault::new(9, at),
+            ElementFault::WrongLength(at) => Fault::new(10, at),
+            ElementFault::WrongType(at) => Fault::new(11, at),
+            ElementFault::WrongCode(at) => Fault::new(12, at),
+            ElementFault::BrokenPair(at) => Fault::new(13, at),
+            ElementFault::MissingRow { segment, place } => {
+                Fault::new(13, Site::of_name(segment, place))
+            }
         }
     }
 }

@@ -5,4 +5,4 @@ pub mod checks;
 mod envelope;
 pub mod faults;
 pub mod limits;
-mod rules;
+mod subject;

@@ -2,7 +2,7 @@ ghost use Rattle.std.specs.Prelude.{◌≡◌};
 ghost use Rattle.placing.specs.declared.faults.SegmentFault.TheVariants.{Bytes};
 ghost use Rattle.placing.specs.Structure.{cause_of_segment};
 
-use x12::faults::{ByteFault, Fault};
+use x12::faults::{ByteFault, Fault, Site};
 
 // The faults of bytes and of structure.
 #[derive(Clone, Copy, Debug, PartialEq, Eq)]
@@ -21,8 +21,8 @@ impl From<SegmentFault> for Fault {
     fn from(fault: SegmentFault) -> Fault {
         match fault {
             SegmentFault::Bytes(bytes) => Fault::from(bytes),
-            SegmentFault::Misplaced { segment, place } => Fault::new(6, segment, 0, place),
-            SegmentFault::Incomplete { segment, place } => Fault::new(7, segment, 0, place),
+            SegmentFault::Misplaced { segment, place } => Fault::new(6, Site::of_name(segment, place)),
+            SegmentFault::Incomplete { segment, place } => Fault::new(7, Site::of_name(segment, place)),
         }
     }
 }

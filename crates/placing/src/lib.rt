@@ -6,6 +6,7 @@ pub mod marks;
 pub mod phase;
 pub mod place;
 pub mod placer;
+pub mod rows;
 mod search;
 pub mod sets;
 mod steps;

@@ -7,6 +7,7 @@ ghost use Rattle.placing.specs.Stages.{Steps, SetBegins, marked};
 
 use crate::phase::Phase;
 use crate::placer::{Placed, Placer, Step};
+use crate::rows;
 use crate::search::find;
 use crate::sets::{Choice, SetState, UsedRow};
 use crate::turn::{Turn, turn_of};
@@ -111,16 +112,16 @@ fn begin_set<G: Guide>(
     ensures { MatchOption result (fits_row (G.meaning guide.now) 1 mark.entry.name.now mark.entry.first.now ≡ false)
         (λ step. (fits_row (G.meaning guide.now) 1 mark.entry.name.now mark.entry.first.now ≡ true) × SetBegins placer.now.groups sets step) }
 {
-    if !guide.fits(1, mark) {
+    if !guide.fits(rows::ST, mark) {
         return None;
     }
     let set = SetState {
-        place: 1,
+        place: rows::ST,
         used: placer.set.used,
         depth: 0,
     };
     Some(Step {
-        placed: outside(1),
+        placed: outside(rows::ST),
         placer: Placer {
             phase: Phase::Set,
             sets,
@@ -154,13 +155,13 @@ pub(crate) fn next_step<G: Guide>(
     ensures { Steps (G.meaning guide.now) placer.now segment (marked mark.entry) result }
 {
     match turn_of(placer.phase, mark.name) {
-        Turn::Isa => pass(placer, 65, Phase::Header, 0),
-        Turn::FirstGs => pass(placer, 66, Phase::Group, 1),
+        Turn::Isa => pass(placer, rows::ISA, Phase::Header, 0),
+        Turn::FirstGs => pass(placer, rows::GS, Phase::Group, 1),
         Turn::NextGs => {
             if placer.groups >= 99 {
                 return None;
             }
-            pass(placer, 66, Phase::Group, placer.groups + 1)
+            pass(placer, rows::GS, Phase::Group, placer.groups + 1)
         }
         Turn::FirstSt => begin_set(guide, placer, 1, mark),
         Turn::NextSt => {
@@ -169,8 +170,8 @@ pub(crate) fn next_step<G: Guide>(
             }
             begin_set(guide, placer, placer.sets + 1, mark)
         }
-        Turn::Ge => pass(placer, 67, Phase::Trailer, placer.groups),
-        Turn::Iea => pass(placer, 68, Phase::End, placer.groups),
+        Turn::Ge => pass(placer, rows::GE, Phase::Trailer, placer.groups),
+        Turn::Iea => pass(placer, rows::IEA, Phase::End, placer.groups),
         Turn::Inside => inside(guide, placer, segment, mark),
         Turn::Nowhere => None,
     }

@@ -21,6 +21,6 @@ cause_of WrongHeader = fault 2 1 0 0
 -- a delimiter that is not of class 5
 cause_of WrongDelimiter = fault 3 1 0 0
 -- a byte of class 0 or a component separator, outside ISA16
-cause_of (WrongByte segment element place) = fault 4 segment element place
+cause_of (WrongByte at) = fault 4 at.segment at.element at.place
 -- no terminator, or a bad name
 cause_of (WrongSegment segment place) = fault 5 segment 0 place

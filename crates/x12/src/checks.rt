@@ -5,7 +5,7 @@ ghost use Rattle.x12.specs.Causes.{cause_of};
 ghost use Rattle.x12.specs.Checks.{bad_byte, name_byte, good_name, part_check, segment_check};
 
 use crate::classes::Class;
-use crate::faults::ByteFault;
+use crate::faults::{ByteFault, Site};
 use crate::parts::{Element, Segment};
 
 // Whether no element but ISA16 may hold the byte.
@@ -56,11 +56,11 @@ fn check_part(segment: &Segment<'_>, element: Element<'_>) -> Result<(), ByteFau
     } = element;
     let is_isa16 = segment.number == 1 && number == 16;
     if !is_isa16 && has_bad(segment.delimiters.component, bytes) {
-        return Err(ByteFault::WrongByte {
+        return Err(ByteFault::WrongByte(Site {
             segment: segment.number,
             element: number,
             place,
-        });
+        }));
     }
     if number == 0 && (!segment.closed || !is_name(bytes)) {
         return Err(ByteFault::WrongSegment {

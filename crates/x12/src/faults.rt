@@ -26,17 +26,38 @@ fn layer(number: u8) -> u8
     }
 }
 
+// Where a fault stands: at an element of a segment, both by number, and at a byte.
+#[derive(Clone, Copy, Debug, PartialEq, Eq)]
+pub struct Site {
+    pub segment: usize,
+    pub element: usize,
+    pub place: usize,
+}
+
+impl Site {
+    // A segment's name, which is its element 0.
+    pub fn of_name(segment: usize, place: usize) -> Site
+        ensures { result ≡ record { segment = segment; element = 0; place = place } }
+    {
+        Site {
+            segment,
+            element: 0,
+            place,
+        }
+    }
+}
+
 impl Fault {
-    // The refusal with this number at a segment, an element and a place.
-    pub fn new(number: u8, segment: usize, element: usize, place: usize) -> Fault
-        ensures { result ≡ fault number segment element place }
+    // The refusal with this number, which stands there.
+    pub fn new(number: u8, at: Site) -> Fault
+        ensures { result ≡ fault number at.segment at.element at.place }
     {
         Fault {
             number,
             layer: layer(number),
-            segment,
-            element,
-            place,
+            segment: at.segment,
+            element: at.element,
+            place: at.place,
         }
     }
 }
@@ -51,16 +72,9 @@ pub enum ByteFault {
     // A delimiter that is not of class 5.
     WrongDelimiter,
     // A byte of class 0 or a component separator, outside ISA16.
-    WrongByte {
-        segment: usize,
-        element: usize,
-        place: usize,
-    },
+    WrongByte(Site),
     // No terminator, or a bad name.
-    WrongSegment {
-        segment: usize,
-        place: usize,
-    },
+    WrongSegment { segment: usize, place: usize },
 }
 
 // The number, layer, segment, element and place of the fault.
@@ -69,15 +83,11 @@ impl From<ByteFault> for Fault {
 
     fn from(fault: ByteFault) -> Fault {
         match fault {
-            ByteFault::WrongLength => Fault::new(1, 0, 0, 0),
-            ByteFault::WrongHeader => Fault::new(2, 1, 0, 0),
-            ByteFault::WrongDelimiter => Fault::new(3, 1, 0, 0),
-            ByteFault::WrongByte {
-                segment,
-                element,
-                place,
-            } => Fault::new(4, segment, element, place),
-            ByteFault::WrongSegment { segment, place } => Fault::new(5, segment, 0, place),
+            ByteFault::WrongLength => Fault::new(1, Site::of_name(0, 0)),
+            ByteFault::WrongHeader => Fault::new(2, Site::of_name(1, 0)),
+            ByteFault::WrongDelimiter => Fault::new(3, Site::of_name(1, 0)),
+            ByteFault::WrongByte(at) => Fault::new(4, at),
+            ByteFault::WrongSegment { segment, place } => Fault::new(5, Site::of_name(segment, place)),
         }
     }
 }
