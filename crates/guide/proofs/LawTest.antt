@@ -3,7 +3,7 @@ use Rattle.std.proofs.Common.{◌≡◌, ℕ, suc, ◌+◌, ◌<◌, ◌≤◌, 
 use Rattle.std.proofs.lemmas.Bool.{true≢false, both_ways, not-true, and_parts, or_cases, leb-true, le-leb, ltb-true, eqb-true}
 use Rattle.std.proofs.lemmas.Bool.Decides.{Decides-and}
 use Rattle.std.proofs.ByRecursion.{Decides-by_and}
-use Rattle.std.specs.List.{AllByRecursion}
+use Rattle.std.specs.List.{AllByRecursion, list_all}
 use Rattle.x12.specs.Class.{class_of, within}
 use Rattle.x12.specs.Lists.{every}
 use Rattle.x12.specs.Checks.{name_byte, good_name}
@@ -19,7 +19,7 @@ use Rattle.guide.specs.declared.rules.Rule.{Rule}
 use Rattle.guide.specs.Meaning.{Meaning, Standing, standing, size}
 use Rattle.guide.specs.Asked.{row_at, over, test, find_rule, rows_of, label_of}
 use Rattle.guide.specs.Law.{IsRow, Named, Fixed, Inside, Behind, KnownElement, known_elements, Typed, Keeps, Thirty, Lawful}
-use Rattle.guide.proofs.Rows.{every_row, every_row_lem, test_some, implies, implied, is_named, named_is, is_named_lem, all_of, all_of_lem, all_one_of}
+use Rattle.guide.proofs.Rows.{every_row, every_row_lem, test_some, implies, implied, is_named, named_is, is_named_lem, all_of_lem, all_one_of}
 
 -- bounds: at most four loops, elements from 1 to 30
 abbrev pub thirty_test : ℕ → Bool
@@ -31,14 +31,14 @@ thirty_decides n = Decides-and (leb 1 n) (leb n 30) (leb-true 1 n, le-leb 1 n) (
 abbrev pub bounds_test : Standing → Bool
 bounds_test s =
     leb s.depth 4
-    && (all_of (λ e. thirty_test e.number) s.this.elements && all_of (λ p. thirty_test p.0 && thirty_test p.1) s.this.pairs)
+    && (list_all (λ e. thirty_test e.number) s.this.elements && list_all (λ p. thirty_test p.0 && thirty_test p.1) s.this.pairs)
 
 -- uses, the name and the codes that place the row
 abbrev pub uses_test : Standing → Bool
 uses_test s = leb s.this.least s.this.greatest && leb 1 s.this.greatest
 
 abbrev pub words_test : Standing → Bool
-words_test s = good_name s.this.name && all_of (every name_byte) s.this.placing
+words_test s = good_name s.this.name && list_all (every name_byte) s.this.placing
 
 code_decides : (v : List ℕ) → Decides (every name_byte v) (AllByRecursion (λ b. (class_of b ≡ 1) ⊎ (class_of b ≡ 2)) v)
 code_decides v = Decides-by_and name_byte (λ b. (class_of b ≡ 1) ⊎ (class_of b ≡ 2)) (every name_byte) name_byte_decides refl (λ _ _. refl) v
@@ -123,7 +123,7 @@ abbrev pub keeps_test : KnownElement → Option Rule → Bool
 keeps_test k o = cond k.must (test (λ r. is_must r.need && typed_test k r) o) (free_test k o)
 
 free_is : (k : KnownElement) (o : Option Rule) → free_test k o ≡ true → (r : Rule) → o ≡ Some r → (r.need ≡ Unused) ⊎ Typed k r
-free_is k None t r e = let z : ◌≡◌ {A = ℕ} 0 1 = cc in absurd (omega arith)
+free_is k None t r e = absurd (grind arith)
 free_is k (Some q) t r e =
     let s : q ≡ r = cc in
     elim (or_cases (is_unused q.need) (typed_test k q) t) [
@@ -140,7 +140,7 @@ keeps_by true k o t =
 keeps_by false k o t = free_is k o t
 
 abbrev pub known_test : Standing → Bool
-known_test s = all_of (λ k. implies (is_named k.segment s) (keeps_test k (over (λ x. x.rule) (find_rule k.element s.this.elements)))) known_elements
+known_test s = list_all (λ k. implies (is_named k.segment s) (keeps_test k (over (λ x. x.rule) (find_rule k.element s.this.elements)))) known_elements
 
 -- all that is asked of a row by itself: its number, the number of the last row, of PO1, ACK and CTT, and where the PO1 loop ends
 abbrev pub names_test : ℕ → ℕ → ℕ → ℕ → ℕ → Standing → Bool
@@ -229,8 +229,8 @@ names_passed last po1 ack ctt n s t =
 
 bounds_is : (s : Standing) → bounds_test s ≡ true → (s.depth ≤ 4) × AllByRecursion (λ e. Thirty e.number) s.this.elements × AllByRecursion (λ p. Thirty p.0 × Thirty p.1) s.this.pairs
 bounds_is s t =
-    let a = and_parts (leb s.depth 4) (all_of (λ e. thirty_test e.number) s.this.elements && all_of (λ p. thirty_test p.0 && thirty_test p.1) s.this.pairs) t in
-    let b = and_parts (all_of (λ e. thirty_test e.number) s.this.elements) (all_of (λ p. thirty_test p.0 && thirty_test p.1) s.this.pairs) a.1 in (
+    let a = and_parts (leb s.depth 4) (list_all (λ e. thirty_test e.number) s.this.elements && list_all (λ p. thirty_test p.0 && thirty_test p.1) s.this.pairs) t in
+    let b = and_parts (list_all (λ e. thirty_test e.number) s.this.elements) (list_all (λ p. thirty_test p.0 && thirty_test p.1) s.this.pairs) a.1 in (
       leb-true s.depth 4 a.0,
       all_of_lem (λ e. thirty_test e.number) (λ e. Thirty e.number) (λ e. thirty_decides e.number) s.this.elements b.0,
       all_of_lem (λ p. thirty_test p.0 && thirty_test p.1) (λ p. Thirty p.0 × Thirty p.1)
@@ -325,8 +325,8 @@ module _ (m : Meaning) (po1 ack ctt : ℕ) (t : law_test_by m (size m.tree) po1 
       let a = and_parts (leb s.this.least s.this.greatest) (leb 1 s.this.greatest) (row n s i).1 in
       (leb-true s.this.least s.this.greatest a.0, leb-true 1 s.this.greatest a.1)
 
-  words_kept : (n : ℕ) (s : Standing) → IsRow m n s → (good_name s.this.name ≡ true) × (all_of (every name_byte) s.this.placing ≡ true)
-  words_kept n s i = and_parts (good_name s.this.name) (all_of (every name_byte) s.this.placing) (row n s i).2
+  words_kept : (n : ℕ) (s : Standing) → IsRow m n s → (good_name s.this.name ≡ true) × (list_all (every name_byte) s.this.placing ≡ true)
+  words_kept n s i = and_parts (good_name s.this.name) (list_all (every name_byte) s.this.placing) (row n s i).2
 
   outside_envelope : (n : ℕ) (name : List ℕ) → OneOf envelope name → Named m n name → ⊥
   outside_envelope n name o h =
