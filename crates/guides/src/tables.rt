@@ -160,6 +160,7 @@ pub(crate) fn row<T: Tabled>(guide: &T, n: u8) -> Option<Row>
 pub(crate) fn fits<T: Tabled>(guide: &T, n: u8, mark: Mark<'_>) -> bool
     ensures { result ≡ fits_row (T.meaning guide.now) n mark.entry.name.now mark.entry.first.now }
 {
+    // The proof of is_some_and does not close over a closure that holds a mark.
     match row_at(guide, n) {
         Some(row) => row.fits(mark),
         None => false,
