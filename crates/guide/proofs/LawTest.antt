@@ -3,7 +3,7 @@ use Rattle.std.proofs.Common.{◌≡◌, ℕ, suc, ◌+◌, ◌<◌, ◌≤◌, 
 use Rattle.std.proofs.lemmas.Bool.{true≢false, both_ways, not-true, and_parts, or_cases, leb-true, le-leb, ltb-true, eqb-true}
 use Rattle.std.proofs.lemmas.Bool.Decides.{Decides-and}
 use Rattle.std.proofs.ByRecursion.{Decides-by_and}
-use Rattle.std.specs.List.{AllByRecursion}
+use Rattle.std.specs.List.{AllByRecursion, list_all}
 use Rattle.x12.specs.Class.{class_of, within}
 use Rattle.std.specs.List.{list_all}
 use Rattle.x12.specs.Checks.{name_byte, good_name}
@@ -19,7 +19,7 @@ use Rattle.guide.specs.declared.rules.Rule.{Rule}
 use Rattle.guide.specs.Meaning.{Meaning, Standing, standing, size}
 use Rattle.guide.specs.Asked.{row_at, over, test, find_rule, rows_of, label_of}
 use Rattle.guide.specs.Law.{IsRow, Named, Fixed, Inside, Behind, KnownElement, known_elements, Typed, Keeps, Thirty, Lawful}
-use Rattle.guide.proofs.Rows.{every_row, every_row_lem, test_some, implies, implied, is_named, named_is, is_named_lem, all_of, all_of_lem, all_one_of}
+use Rattle.guide.proofs.Rows.{every_row, every_row_lem, test_some, implies, implied, is_named, named_is, is_named_lem, all_of_lem, all_one_of}
 
 -- bounds: at most four loops, elements from 1 to 30
 abbrev pub thirty_test : ℕ → Bool
@@ -31,14 +31,14 @@ thirty_decides n = Decides-and (leb 1 n) (leb n 30) (leb-true 1 n, le-leb 1 n) (
 abbrev pub bounds_test : Standing → Bool
 bounds_test s =
     leb s.depth 4
-    && (all_of (λ e. thirty_test e.number) s.this.elements && all_of (λ p. thirty_test p.0 && thirty_test p.1) s.this.pairs)
+    && (list_all (λ e. thirty_test e.number) s.this.elements && list_all (λ p. thirty_test p.0 && thirty_test p.1) s.this.pairs)
 
 -- uses, the name and the codes that place the row
 abbrev pub uses_test : Standing → Bool
 uses_test s = leb s.this.least s.this.greatest && leb 1 s.this.greatest
 
 abbrev pub words_test : Standing → Bool
-words_test s = good_name s.this.name && all_of (list_all name_byte) s.this.placing
+words_test s = good_name s.this.name && list_all (list_all name_byte) s.this.placing
 
 code_decides : (v : List ℕ) → Decides (list_all name_byte v) (AllByRecursion (λ b. (class_of b ≡ 1) ⊎ (class_of b ≡ 2)) v)
 code_decides v = Decides-by_and name_byte (λ b. (class_of b ≡ 1) ⊎ (class_of b ≡ 2)) (list_all name_byte) name_byte_decides refl (λ _ _. refl) v
@@ -123,7 +123,7 @@ abbrev pub keeps_test : KnownElement → Option Rule → Bool
 keeps_test k o = cond k.must (test (λ r. is_must r.need && typed_test k r) o) (free_test k o)
 
 free_is : (k : KnownElement) (o : Option Rule) → free_test k o ≡ true → (r : Rule) → o ≡ Some r → (r.need ≡ Unused) ⊎ Typed k r
-free_is k None t r e = let z : ◌≡◌ {A = ℕ} 0 1 = cc in absurd (omega arith)
+free_is k None t r e = absurd (grind arith)
 free_is k (Some q) t r e =
     let s : q ≡ r = cc in
     elim (or_cases (is_unused q.need) (typed_test k q) t) [
@@ -140,7 +140,7 @@ keeps_by true k o t =
 keeps_by false k o t = free_is k o t
 
 abbrev pub known_test : Standing → Bool
-known_test s = all_of (λ k. implies (is_named k.segment s) (keeps_test k (over (λ x. x.rule) (find_rule k.element s.this.elements)))) known_elements
+known_test s = list_all (λ k. implies (is_named k.segment s) (keeps_test k (over (λ x. x.rule) (find_rule k.element s.this.elements)))) known_elements
 
 -- all that is asked of a row by itself: its number, the number of the last row, of PO1, ACK and CTT, and where the PO1 loop ends
 abbrev pub names_test : ℕ → ℕ → ℕ → ℕ → ℕ → Standing → Bool
@@ -164,15 +164,34 @@ inner_of (Some s) = s.inner
 abbrev pub fixed_test : Meaning → ℕ → List ℕ → Bool
 fixed_test m n name = test (λ s. is_named name s && (eqb s.this.least 1 && (eqb s.this.greatest 1 && (eqb s.depth 0 && eqb s.inner 0)))) (row_at m n)
 
+-- what passes all of five tests, of six, and of seven
+five_parts : (a b c d e : Bool) → (a && (b && (c && (d && e)))) ≡ true → (a ≡ true) × (b ≡ true) × (c ≡ true) × (d ≡ true) × (e ≡ true)
+five_parts a b c d e t =
+    let p = and_parts a (b && (c && (d && e))) t in
+    let q = and_parts b (c && (d && e)) p.1 in
+    let r = and_parts c (d && e) q.1 in
+    let u = and_parts d e r.1 in
+    (p.0, q.0, r.0, u.0, u.1)
+
+six_parts : (a b c d e f : Bool) → (a && (b && (c && (d && (e && f))))) ≡ true → (a ≡ true) × (b ≡ true) × (c ≡ true) × (d ≡ true) × (e ≡ true) × (f ≡ true)
+six_parts a b c d e f t =
+    let p = and_parts a (b && (c && (d && (e && f)))) t in
+    let q = five_parts b c d e f p.1 in
+    (p.0, q.0, q.1, q.2, q.3, q.4)
+
+seven_parts : (a b c d e f g : Bool) → (a && (b && (c && (d && (e && (f && g)))))) ≡ true
+    → (a ≡ true) × (b ≡ true) × (c ≡ true) × (d ≡ true) × (e ≡ true) × (f ≡ true) × (g ≡ true)
+seven_parts a b c d e f g t =
+    let p = and_parts a (b && (c && (d && (e && (f && g))))) t in
+    let q = six_parts b c d e f g p.1 in
+    (p.0, q.0, q.1, q.2, q.3, q.4, q.5)
+
 fixed_is : (m : Meaning) (n : ℕ) (name : List ℕ) → fixed_test m n name ≡ true → Fixed m n name
 fixed_is m n name t =
     let x = test_some (λ s. is_named name s && (eqb s.this.least 1 && (eqb s.this.greatest 1 && (eqb s.depth 0 && eqb s.inner 0)))) (row_at m n) t in
     let s = x.0 in
-    let a = and_parts (is_named name s) (eqb s.this.least 1 && (eqb s.this.greatest 1 && (eqb s.depth 0 && eqb s.inner 0))) x.2 in
-    let b = and_parts (eqb s.this.least 1) (eqb s.this.greatest 1 && (eqb s.depth 0 && eqb s.inner 0)) a.1 in
-    let c = and_parts (eqb s.this.greatest 1) (eqb s.depth 0 && eqb s.inner 0) b.1 in
-    let d = and_parts (eqb s.depth 0) (eqb s.inner 0) c.1 in
-    (s, x.1, named_is name s a.0, eqb-true s.this.least 1 b.0, eqb-true s.this.greatest 1 c.0, eqb-true s.depth 0 d.0, eqb-true s.inner 0 d.1)
+    let p = five_parts _ _ _ _ _ x.2 in
+    (s, x.1, named_is name s p.0, eqb-true s.this.least 1 p.1, eqb-true s.this.greatest 1 p.2, eqb-true s.depth 0 p.3, eqb-true s.inner 0 p.4)
 
 -- PO1 opens a loop, and ACK stands in it
 abbrev pub po1_test : Meaning → ℕ → Bool
@@ -202,13 +221,7 @@ RowPassed last po1 ack ctt end n s =
     (bounds_test s ≡ true) × (uses_test s ≡ true) × (words_test s ≡ true) × (names_test last po1 ack ctt n s ≡ true) × (ctt_test end n s ≡ true) × (known_test s ≡ true)
 
 row_passed : (last po1 ack ctt end n : ℕ) (s : Standing) → row_test last po1 ack ctt end n s ≡ true → RowPassed last po1 ack ctt end n s
-row_passed last po1 ack ctt end n s t =
-    let a = and_parts (bounds_test s) (uses_test s && (words_test s && (names_test last po1 ack ctt n s && (ctt_test end n s && known_test s)))) t in
-    let b = and_parts (uses_test s) (words_test s && (names_test last po1 ack ctt n s && (ctt_test end n s && known_test s))) a.1 in
-    let c = and_parts (words_test s) (names_test last po1 ack ctt n s && (ctt_test end n s && known_test s)) b.1 in
-    let d = and_parts (names_test last po1 ack ctt n s) (ctt_test end n s && known_test s) c.1 in
-    let e = and_parts (ctt_test end n s) (known_test s) d.1 in
-    (a.0, b.0, c.0, d.0, e.0, e.1)
+row_passed last po1 ack ctt end n s t = six_parts _ _ _ _ _ _ t
 
 abbrev NamesPassed : ℕ → ℕ → ℕ → ℕ → ℕ → Standing → Type 0
 NamesPassed last po1 ack ctt n s =
@@ -217,20 +230,12 @@ NamesPassed last po1 ack ctt n s =
     × (not (is_one_of envelope s.this.name) ≡ true)
 
 names_passed : (last po1 ack ctt n : ℕ) (s : Standing) → names_test last po1 ack ctt n s ≡ true → NamesPassed last po1 ack ctt n s
-names_passed last po1 ack ctt n s t =
-    let free = not (is_one_of envelope s.this.name) in
-    let a = and_parts (only_test (codes "ST") 1 n s) (only_test (codes "BAK") 2 n s && (only_test (codes "SE") last n s && (only_test (codes "PO1") po1 n s && (only_test (codes "ACK") ack n s && (only_test (codes "CTT") ctt n s && free))))) t in
-    let b = and_parts (only_test (codes "BAK") 2 n s) (only_test (codes "SE") last n s && (only_test (codes "PO1") po1 n s && (only_test (codes "ACK") ack n s && (only_test (codes "CTT") ctt n s && free)))) a.1 in
-    let c = and_parts (only_test (codes "SE") last n s) (only_test (codes "PO1") po1 n s && (only_test (codes "ACK") ack n s && (only_test (codes "CTT") ctt n s && free))) b.1 in
-    let d = and_parts (only_test (codes "PO1") po1 n s) (only_test (codes "ACK") ack n s && (only_test (codes "CTT") ctt n s && free)) c.1 in
-    let e = and_parts (only_test (codes "ACK") ack n s) (only_test (codes "CTT") ctt n s && free) d.1 in
-    let f = and_parts (only_test (codes "CTT") ctt n s) free e.1 in
-    (a.0, b.0, c.0, d.0, e.0, f.0, f.1)
+names_passed last po1 ack ctt n s t = seven_parts _ _ _ _ _ _ _ t
 
 bounds_is : (s : Standing) → bounds_test s ≡ true → (s.depth ≤ 4) × AllByRecursion (λ e. Thirty e.number) s.this.elements × AllByRecursion (λ p. Thirty p.0 × Thirty p.1) s.this.pairs
 bounds_is s t =
-    let a = and_parts (leb s.depth 4) (all_of (λ e. thirty_test e.number) s.this.elements && all_of (λ p. thirty_test p.0 && thirty_test p.1) s.this.pairs) t in
-    let b = and_parts (all_of (λ e. thirty_test e.number) s.this.elements) (all_of (λ p. thirty_test p.0 && thirty_test p.1) s.this.pairs) a.1 in (
+    let a = and_parts (leb s.depth 4) (list_all (λ e. thirty_test e.number) s.this.elements && list_all (λ p. thirty_test p.0 && thirty_test p.1) s.this.pairs) t in
+    let b = and_parts (list_all (λ e. thirty_test e.number) s.this.elements) (list_all (λ p. thirty_test p.0 && thirty_test p.1) s.this.pairs) a.1 in (
       leb-true s.depth 4 a.0,
       all_of_lem (λ e. thirty_test e.number) (λ e. Thirty e.number) (λ e. thirty_decides e.number) s.this.elements b.0,
       all_of_lem (λ p. thirty_test p.0 && thirty_test p.1) (λ p. Thirty p.0 × Thirty p.1)
@@ -238,27 +243,14 @@ bounds_is s t =
     )
 
 module _ (m : Meaning) (po1 ack ctt : ℕ) (t : law_test_by m (size m.tree) po1 ack ctt ≡ true) where
-  rest₁ : Bool
-  rest₁ = fixed_test m 1 (codes "ST") && (fixed_test m 2 (codes "BAK") && (fixed_test m (size m.tree) (codes "SE")
-      && (every_row (row_test (size m.tree) po1 ack ctt (po1 + inner_of (row_at m po1))) 1 (standing 0 m.tree)
-      && (po1_test m po1 && (ack_test m po1 ack && followers_test (label_of m) (rows_of m))))))
-
   -- the parts of the whole test
   passed : (size m.tree ≤ 64) × (fixed_test m 1 (codes "ST") ≡ true) × (fixed_test m 2 (codes "BAK") ≡ true) × (fixed_test m (size m.tree) (codes "SE") ≡ true)
       × (every_row (row_test (size m.tree) po1 ack ctt (po1 + inner_of (row_at m po1))) 1 (standing 0 m.tree) ≡ true)
       × (po1_test m po1 ≡ true) × (ack_test m po1 ack ≡ true) × (followers_test (label_of m) (rows_of m) ≡ true)
-  unfolding rest₁
   passed =
-      let rows = every_row (row_test (size m.tree) po1 ack ctt (po1 + inner_of (row_at m po1))) 1 (standing 0 m.tree) in
-      let inner = ack_test m po1 ack && followers_test (label_of m) (rows_of m) in
-      let a = and_parts (leb (size m.tree) 64) rest₁ t in
-      let b = and_parts (fixed_test m 1 (codes "ST")) (fixed_test m 2 (codes "BAK") && (fixed_test m (size m.tree) (codes "SE") && (rows && (po1_test m po1 && inner)))) a.1 in
-      let c = and_parts (fixed_test m 2 (codes "BAK")) (fixed_test m (size m.tree) (codes "SE") && (rows && (po1_test m po1 && inner))) b.1 in
-      let d = and_parts (fixed_test m (size m.tree) (codes "SE")) (rows && (po1_test m po1 && inner)) c.1 in
-      let e = and_parts rows (po1_test m po1 && inner) d.1 in
-      let f = and_parts (po1_test m po1) inner e.1 in
-      let g = and_parts (ack_test m po1 ack) (followers_test (label_of m) (rows_of m)) f.1 in
-      (leb-true (size m.tree) 64 a.0, b.0, c.0, d.0, e.0, f.0, g.0, g.1)
+      let p = and_parts (leb (size m.tree) 64) _ t in
+      let q = seven_parts _ _ _ _ _ _ _ p.1 in
+      (leb-true (size m.tree) 64 p.0, q.0, q.1, q.2, q.3, q.4, q.5, q.6)
 
   row : (n : ℕ) (s : Standing) → IsRow m n s → RowPassed (size m.tree) po1 ack ctt (po1 + inner_of (row_at m po1)) n s
   row n s i = row_passed (size m.tree) po1 ack ctt (po1 + inner_of (row_at m po1)) n s
@@ -325,8 +317,8 @@ module _ (m : Meaning) (po1 ack ctt : ℕ) (t : law_test_by m (size m.tree) po1 
       let a = and_parts (leb s.this.least s.this.greatest) (leb 1 s.this.greatest) (row n s i).1 in
       (leb-true s.this.least s.this.greatest a.0, leb-true 1 s.this.greatest a.1)
 
-  words_kept : (n : ℕ) (s : Standing) → IsRow m n s → (good_name s.this.name ≡ true) × (all_of (list_all name_byte) s.this.placing ≡ true)
-  words_kept n s i = and_parts (good_name s.this.name) (all_of (list_all name_byte) s.this.placing) (row n s i).2
+  words_kept : (n : ℕ) (s : Standing) → IsRow m n s → (good_name s.this.name ≡ true) × (list_all (list_all name_byte) s.this.placing ≡ true)
+  words_kept n s i = and_parts (good_name s.this.name) (list_all (list_all name_byte) s.this.placing) (row n s i).2
 
   outside_envelope : (n : ℕ) (name : List ℕ) → OneOf envelope name → Named m n name → ⊥
   outside_envelope n name o h =

@@ -3,7 +3,7 @@ use Rattle.std.proofs.Common.{◌≡◌, ℕ, zero, suc, ◌+◌, Bool, true, fa
 use Rattle.std.proofs.lemmas.Bool.{true≢false, and_parts}
 use Rattle.std.proofs.lemmas.Slice.Eq.{bytes_eq-Decides}
 use Rattle.std.proofs.ByRecursion.{Decides-by_and}
-use Rattle.std.specs.List.{AllByRecursion}
+use Rattle.std.specs.List.{AllByRecursion, list_all}
 use Rattle.std.specs.Str.{bytes_eq}
 use Rattle.x12.specs.Lists.{nth}
 use Rattle.grammar.specs.Marks.{OneOf}
@@ -15,18 +15,13 @@ abbrev pub every_row : (ℕ → Standing → Bool) → ℕ → List Standing →
 every_row f n [] = true
 every_row f n (s ∷ ss) = f n s && every_row f (suc n) ss
 
-never : {A : Type 0} (x : A) → None ≡ Some x → ⊥
-never x e = let z : ◌≡◌ {A = ℕ} 0 1 = cc in omega arith
-
-same_some : {A : Type 0} (x y : A) → Some x ≡ Some y → x ≡ y
-same_some x y e = cc
-
 every_from : (f : ℕ → Standing → Bool) (n : ℕ) (xs : List Standing) → every_row f (suc n) xs ≡ true → (k : ℕ) (s : Standing) → nth xs k ≡ Some s → f (n + k) s ≡ true
-every_from f n [] t k s e = absurd (never s e)
-every_from f n (x ∷ xs) t zero s e = absurd (never s e)
+every_from f n [] t k s e = absurd (grind arith)
+every_from f n (x ∷ xs) t zero s e = absurd (grind arith)
 every_from f n (x ∷ xs) t (suc zero) s e =
     let z : n + 1 ≡ suc n = omega arith in
-    (λ i. f (z i) (sym (same_some x s e) i)) ∙ (and_parts (f (suc n) x) (every_row f (suc (suc n)) xs) t).0
+    let same : s ≡ x = cc in
+    (λ i. f (z i) (same i)) ∙ (and_parts (f (suc n) x) (every_row f (suc (suc n)) xs) t).0
 every_from f n (x ∷ xs) t (suc (suc k)) s e =
     let z : n + suc (suc k) ≡ suc n + suc k = omega arith in
     ap (λ (j : ℕ). f j s) z ∙ every_from f (suc n) xs (and_parts (f (suc n) x) (every_row f (suc (suc n)) xs) t).1 (suc k) s e
@@ -58,15 +53,11 @@ named_is name s t = (bytes_eq-Decides s.this.name name).0 t
 pub is_named_lem : (name : List ℕ) (s : Standing) → s.this.name ≡ name → is_named name s ≡ true
 is_named_lem name s e = (bytes_eq-Decides s.this.name name).1 e
 
--- each of a list passes a test
-abbrev pub all_of : {X : Type 0} → (X → Bool) → List X → Bool
-all_of f [] = true
-all_of f (x ∷ xs) = f x && all_of f xs
+-- what each of a list passes, and one of it
+pub all_of_lem : {X : Type 0} (f : X → Bool) (P : X → Type 0) → ((x : X) → Decides (f x) (P x)) → (xs : List X) → list_all f xs ≡ true → AllByRecursion P xs
+all_of_lem f P d xs t = (Decides-by_and f P (list_all f) d refl (λ _ _. refl) xs).0 t
 
-pub all_of_lem : {X : Type 0} (f : X → Bool) (P : X → Type 0) → ((x : X) → Decides (f x) (P x)) → (xs : List X) → all_of f xs ≡ true → AllByRecursion P xs
-all_of_lem f P d xs t = (Decides-by_and f P (all_of f) d refl (λ _ _. refl) xs).0 t
-
-pub all_one_of : {X : Type 0} (f : X → Bool) (xs : List X) → all_of f xs ≡ true → (x : X) → OneOf xs x → f x ≡ true
+pub all_one_of : {X : Type 0} (f : X → Bool) (xs : List X) → list_all f xs ≡ true → (x : X) → OneOf xs x → f x ≡ true
 all_one_of f [] t x o = elim o [ ]
-all_one_of f (y ∷ ys) t x (inl e) = ap f e ∙ (and_parts (f y) (all_of f ys) t).0
-all_one_of f (y ∷ ys) t x (inr o) = all_one_of f ys (and_parts (f y) (all_of f ys) t).1 x o
+all_one_of f (y ∷ ys) t x (inl e) = ap f e ∙ (and_parts (f y) (list_all f ys) t).0
+all_one_of f (y ∷ ys) t x (inr o) = all_one_of f ys (and_parts (f y) (list_all f ys) t).1 x o

@@ -11,8 +11,8 @@ use Rattle.guide.specs.Judged.{LawfulRows}
 
 -- what holds of each numbered item of a list holds of each item
 nth_zero : {X : Type 0} (xs : List X) (x : X) → nth xs 0 ≡ Some x → ⊥
-nth_zero [] x e = let z : ◌≡◌ {A = ℕ} 0 1 = cc in omega arith
-nth_zero (y ∷ ys) x e = let z : ◌≡◌ {A = ℕ} 0 1 = cc in omega arith
+nth_zero [] x e = grind arith
+nth_zero (y ∷ ys) x e = grind arith
 
 nth_later : {X : Type 0} (P : X → Type 0) (x : X) (xs : List X) → ((n : ℕ) (y : X) → nth (x ∷ xs) n ≡ Some y → P y) → (n : ℕ) (y : X) → nth xs n ≡ Some y → P y
 nth_later P x xs h zero y e = absurd (nth_zero xs y e)
@@ -54,7 +54,7 @@ size_none (branch this inner after) e = absurd (omega arith)
 
 first_row : (t : Tree) (s : Standing) → nth (standing 0 t) 1 ≡ Some s → s.this.least ≡ 1 → s.this.greatest ≡ 1 → s.inner ≡ 0
     → numbered 1 t ≡ row 1 1 1 end (after_first (numbered 1 t))
-first_row none s e l g i = let z : ◌≡◌ {A = ℕ} 0 1 = cc in absurd (omega arith)
+first_row none s e l g i = absurd (grind arith)
 first_row (branch this inner after) s e l g i =
     let q : record { depth = 0; inner = size inner; this = this } ≡ s = cc in
     let l₁ : this.least ≡ 1 = ap (λ (x : Standing). x.this.least) q ∙ l in
@@ -71,7 +71,7 @@ labelled : (m : Meaning) (q : ℕ) (x : ℕ) (name : List ℕ) → (label_of m q
 labelled m q x name e = go (row_at m q) refl e
   where
     go : (o : Option Standing) → row_at m q ≡ o → (label o).name ≡ x ∷ name → Named m q (x ∷ name)
-    go None h e = let z : ◌≡◌ {A = ℕ} 0 1 = cc in absurd (omega arith)
+    go None h e = absurd (grind arith)
     go (Some s) h e = (s, h, e)
 
 pub lawful_rows : LawfulRows

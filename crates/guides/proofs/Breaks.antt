@@ -1,5 +1,5 @@
 -- Two meanings break the law.
-use Rattle.std.proofs.Common.{◌≡◌, ℕ, pred, ◌≤◌, ◌≢◌, [], ◌∷◌, codes, refl, inl, inr, arith, lit≤}
+use Rattle.std.proofs.Common.{ℕ, pred, ◌≤◌, ◌≢◌, [], ◌∷◌, codes, refl, inl, inr, arith, lit≤}
 use Rattle.grammar.specs.Tree.{Rows, end, row}
 use Rattle.grammar.specs.Marks.{Mark}
 use Rattle.grammar.proofs.States.{State, Step, take_row, skip_row, leave_list, stay, move, Follows}
@@ -79,5 +79,4 @@ whole_po102_breaks l =
     let kept = l.elements _ (inr (inr (inr (inr (inr (inl refl)))))) 7 _ refl refl in
     let rule = kept.1 in
     let form = kept.3.0 in
-    let z : ◌≡◌ {A = ℕ} 0 1 = cc in
-    omega arith
+    absurd (grind arith)

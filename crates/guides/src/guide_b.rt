@@ -15,6 +15,11 @@ pub struct GuideB;
 // What kind of number a party is known by.
 const PARTY_QUALIFIERS: &[&[u8]] = &[b"15", b"1", b"12", b"14", b"ZZ"];
 
+// What kind of number a product is known by, and what kind of second number.
+const PRODUCT_QUALIFIERS: &[&[u8]] = &[b"IB", b"EN", b"UK", b"UP"];
+
+const SECOND_QUALIFIERS: &[&[u8]] = &[b"IB", b"EN", b"UK", b"UP", b"VN", b"MG", b"PO"];
+
 // The units that a quantity is counted in.
 const UNITS: &[&[u8]] = &[b"UN", b"EA"];
 
@@ -122,15 +127,9 @@ const ROWS: &[TableRow] = &[
             must!(2, Q, 1, 9),
             must!(3, Id, 2, 2, UNITS),
             may!(4, R, 1, 17),
-            must!(6, Id, 2, 2, &[b"IB", b"EN", b"UK", b"UP"]),
+            must!(6, Id, 2, 2, PRODUCT_QUALIFIERS),
             must!(7, An, 1, 40),
-            may!(
-                8,
-                Id,
-                2,
-                2,
-                &[b"IB", b"EN", b"UK", b"UP", b"VN", b"MG", b"PO"]
-            ),
+            may!(8, Id, 2, 2, SECOND_QUALIFIERS),
             may!(9, An, 1, 40),
         ],
         pairs: &[(8, 9), (9, 8)],

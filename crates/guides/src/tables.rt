@@ -36,7 +36,8 @@ pub(crate) const ONCE: Row = Row {
     paired: false,
 };
 
-// An element in a table, by its number, type, least and greatest length, and its codes if there are any.
+// An element in a table, by its number, type, least and greatest length, and its codes if there are any. Macros, since the value of a constant
+// calls no function.
 macro_rules! element {
     ($need:ident, $number:expr, $form:ident, $least:expr, $greatest:expr, $codes:expr) => {
         Element {
@@ -148,7 +149,8 @@ fn row_at<T: Tabled>(guide: &T, n: u8) -> Option<&'static TableRow>
     row_in(guide.rows(), n)
 }
 
-// What a table answers, as the guide's meaning does.
+// What a table answers, as the guide's meaning does. Each guide calls these: one impl of Guide for all that is Tabled would overlap with that
+// for what is lent.
 pub(crate) fn row<T: Tabled>(guide: &T, n: u8) -> Option<Row>
     ensures { result ≡ row_of (T.meaning guide.now) n }
 {
@@ -158,6 +160,7 @@ pub(crate) fn row<T: Tabled>(guide: &T, n: u8) -> Option<Row>
 pub(crate) fn fits<T: Tabled>(guide: &T, n: u8, mark: Mark<'_>) -> bool
     ensures { result ≡ fits_row (T.meaning guide.now) n mark.entry.name.now mark.entry.first.now }
 {
+    // The proof of is_some_and does not close over a closure that holds a mark.
     match row_at(guide, n) {
         Some(row) => row.fits(mark),
         None => false,
