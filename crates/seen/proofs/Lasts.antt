@@ -1,9 +1,10 @@
 -- The last number of a bucket: what it says, and what one more number does to it and to the chains.
-use Rattle.std.proofs.Common.{◌≡◌, ℕ, zero, suc, ◌<◌, ◌≤◌, cond, eqb, List, [], ◌∷◌, ◌++◌, Option, None, Some, length, get_or, set, replicate, sym, refl, ap, ◌∙◌, ⊎_elim, add-one, arith, eq-eqb, ne_eqb, eqb-true, length-set}
-use Rattle.std.proofs.lemmas.List.{get_or_append_left, get_or_push, get_or-set_same, get_or-set_other, get_or-replicate, length-replicate, length_push}
+use Rattle.std.proofs.Common.{◌≡◌, ℕ, zero, suc, ◌<◌, ◌≤◌, cond, eqb, List, [], ◌∷◌, ◌++◌, Option, None, Some, length, get_or, set, replicate, sym, refl, ap, ◌∙◌, ⊎_elim, add-one, arith, eq-eqb, ne_eqb, eqb-true, length-set, map, Bor}
+use Rattle.std.proofs.lemmas.List.{get_or_append_left, get_or_push, get_or-set_same, get_or-set_other, get_or-replicate, length-replicate, length_push, length-map, map_push}
 use Rattle.std.proofs.lemmas.Bool.{cases_eq, cases_lt, cond-true, cond-false, cond_both}
 use borrow.Author.Tests.{eqb-false}
 use Rattle.seen.specs.Buckets.{bucket_number}
+use Rattle.seen.specs.Came.{bytes_of}
 use Rattle.seen.specs.Chains.{last_of, Chained}
 
 -- the bucket of the number at i
@@ -55,12 +56,13 @@ last_more ns x b =
 -- no number is chained to another
 pub chained_none : Chained [] [] (replicate 4096 None)
 chained_none = record {
+  beside = refl;
   whole = length-replicate {A = Option ℕ} 4096 None;
   headed = λ b lt. get_or-replicate 4096 b None None lt;
   linked = λ i lt. absurd (omega arith);
 }
 
-module _ (ns : List (List ℕ)) (older heads : List (Option ℕ)) (x : List ℕ) (chained : Chained ns older heads) (known : bucket_number x < 4096) (beside : length older ≡ length ns) where
+module _ (ns : List (List ℕ)) (older heads : List (Option ℕ)) (x : List ℕ) (chained : Chained ns older heads) (known : bucket_number x < 4096) where
   headed_add : (b : ℕ) → b < 4096 → get_or (set heads (bucket_number x) (Some (length ns))) b None ≡ last_of (ns ++ x ∷ []) b (length (ns ++ x ∷ []))
   headed_add b lt =
       ⊎_elim
@@ -78,13 +80,13 @@ module _ (ns : List (List ℕ)) (older heads : List (Option ℕ)) (x : List ℕ)
   linked_add i lt =
       ⊎_elim
       (λ h.
-      get_or_append_left older (get_or heads (bucket_number x) None ∷ []) None i (omega arith)
+      get_or_append_left older (get_or heads (bucket_number x) None ∷ []) None i (omega (arith, chained.beside))
       ∙ chained.linked i h
       ∙ sym (last_before ns x (bucket_at ns i) i (omega arith))
       ∙ ap (λ y. last_of (ns ++ x ∷ []) (bucket_number y) i) (sym (get_or_append_left ns (x ∷ []) [] i h)))
       (λ h.
       let same : i ≡ length ns = omega (arith, length_push ns x) in
-      get_or_push older (get_or heads (bucket_number x) None) None i (omega arith)
+      get_or_push older (get_or heads (bucket_number x) None) None i (omega (arith, chained.beside))
       ∙ chained.headed (bucket_number x) known
       ∙ sym (last_before ns x (bucket_number x) (length ns) (omega arith))
       ∙ ap (last_of (ns ++ x ∷ []) (bucket_number x)) (sym same)
@@ -93,4 +95,18 @@ module _ (ns : List (List ℕ)) (older heads : List (Option ℕ)) (x : List ℕ)
 
   -- one more number, which is chained to the last one of its bucket, and is then the last one
   pub chained_add : Chained (ns ++ x ∷ []) (older ++ get_or heads (bucket_number x) None ∷ []) (set heads (bucket_number x) (Some (length ns)))
-  chained_add = record { whole = length-set heads (bucket_number x) (Some (length ns)) ∙ chained.whole; headed = headed_add; linked = linked_add }
+  chained_add =
+      record {
+        beside = omega (arith, length_push older (get_or heads (bucket_number x) None), length_push ns x, chained.beside);
+        whole = length-set heads (bucket_number x) (Some (length ns)) ∙ chained.whole;
+        headed = headed_add;
+        linked = linked_add;
+      }
+
+-- the same for numbers that are kept as references
+pub chained_push : (ns ms : List (Bor (List ℕ))) (older olders heads : List (Option ℕ)) (x : Bor (List ℕ)) (b n : ℕ) → Chained (map bytes_of ns) older heads
+    → b ≡ bucket_number (bytes_of x) → b < 4096 → n ≡ length ns → ms ≡ ns ++ x ∷ [] → olders ≡ older ++ get_or heads b None ∷ []
+    → Chained (map bytes_of ms) olders (set heads b (Some n))
+chained_push ns ms older olders heads x b n chained is known at more linked =
+    let count : n ≡ length (map bytes_of ns) = at ∙ sym (length-map ns bytes_of) in
+    rw (more, map_push bytes_of ns x, linked, is, count) (chained_add (map bytes_of ns) older heads (bytes_of x) chained (omega arith))

@@ -1,4 +1,3 @@
 pub mod Comes
 pub mod Lasts
 pub mod Walks
-pub mod Entered

@@ -1,11 +1,20 @@
 -- A walk along the chain of a bucket passes over no number that is the same as the one looked for.
-use Rattle.std.proofs.Common.{◌≡◌, ℕ, suc, ◌<◌, ◌≤◌, false, List, [], Option, Some, length, get_or, sym, refl, ap, ◌∙◌, ⊎_elim, arith}
+use Rattle.std.proofs.Common.{◌≡◌, ℕ, suc, ◌<◌, ◌≤◌, false, List, [], Option, None, Some, map, length, get_or, sym, refl, ap, ◌∙◌, ⊎_elim, arith, Bor}
 use Rattle.std.specs.Str.{bytes_eq}
 use Rattle.std.proofs.lemmas.Slice.Eq.{bytes_eq-Decides}
 use Rattle.std.proofs.lemmas.Bool.{cases_Bool, cases_lt}
+use Rattle.std.proofs.lemmas.List.{get_or-map, length-map}
 use Rattle.seen.specs.Buckets.{bucket_number}
+use Rattle.seen.specs.Came.{bytes_of}
 use Rattle.seen.specs.Chains.{last_of}
 use Rattle.seen.proofs.Lasts.{bucket_at, up_to, last_is}
+
+-- what is read of the numbers, which are kept as references, and of what is older
+pub kept_at : (es items : List (Bor (List ℕ))) (j i : ℕ) (d : Bor (List ℕ)) → es ≡ items → j ≡ i → i < length (map bytes_of items) → get_or (map bytes_of items) i [] ≡ bytes_of (get_or es j d)
+kept_at es items j i d same at lt = rw (same, at) (get_or-map bytes_of items i d [] (omega (arith, length-map items bytes_of)))
+
+pub older_at : (os older : List (Option ℕ)) (j i : ℕ) (o : Option ℕ) → os ≡ older → j ≡ i → get_or older i None ≡ o → get_or os j None ≡ o
+older_at os older j i o same at e = cc
 
 -- the walk has come to a number of the bucket, or to the end, and what it left behind is not the number
 pub record Walk (ns : List (List ℕ)) (v : List ℕ) (next : Option ℕ) : Type 0 where

@@ -10,6 +10,7 @@ last_of ns bucket (suc n) = let less = last_of ns bucket n in cond (bucket_numbe
 -- The numbers are chained: the head of each bucket is its last number, and older than each number is the last one before it in
 -- its bucket.
 pub record Chained (ns : List (List ℕ)) (older heads : List (Option ℕ)) : Type 0 where
+  pub beside : length older ≡ length ns
   pub whole : length heads ≡ 4096
   pub headed : (bucket : ℕ) → bucket < 4096 → slice_index_or heads bucket None ≡ last_of ns bucket (length ns)
   pub linked : (i : ℕ) → i < length ns → slice_index_or older i None ≡ last_of ns (bucket_number (slice_index_or ns i [])) i

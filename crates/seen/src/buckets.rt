@@ -11,7 +11,7 @@ pub(crate) fn bucket_of(number: &[u8]) -> usize
 {
     let mut bucket = 0;
     for byte in number {
-        bucket = (bucket * 229 + *byte as usize) % BUCKETS;
+        bucket = (bucket * 229 + usize::from(*byte)) % BUCKETS;
     }
     bucket
 }

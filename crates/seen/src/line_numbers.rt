@@ -1,7 +1,6 @@
-ghost use Rattle.std.specs.Prelude.{◌≡◌, ◌<◌, ℕ, List, [], ◌∷◌, ◌++◌, length};
-ghost use Rattle.seen.specs.Came.{came_before};
+ghost use Rattle.std.specs.Prelude.{◌≡◌, ◌<◌, ℕ, List, [], ◌∷◌, ◌++◌, map, length};
+ghost use Rattle.seen.specs.Came.{bytes_of, came_before};
 ghost use Rattle.seen.specs.Chains.{Chained};
-ghost use Rattle.seen.specs.Entries.{entered, olders};
 
 use crate::buckets::{BUCKETS, bucket_of};
 use arrayvec::ArrayVec;
@@ -11,26 +10,25 @@ use value::texts::same_bytes;
 // The number of a line, its PO101: that very part of the interchange.
 pub type LineNumber<'a> = &'a [u8];
 
-// A number that came, and the index of the last one before it in its bucket.
-#[derive(Clone, Copy, Default)]
-struct Entry<'a> {
-    number: LineNumber<'a>,
-    older: Option<u16>,
-}
+// How many line numbers there may be.
+const MOST: usize = 16384;
 
 // The numbers of the lines of one set, in the order in which they came, and for each bucket the index of its last one.
+// For each number `older` has the index of the last one before it in its bucket. The two lists are not one list of pairs, since with
+// pairs a reading and its moves take more than the 1 MiB of stack that it may have.
 #[derive(Drop)]
 pub struct LineNumbers<'a> {
-    entries: ArrayVec<Entry<'a>, 16384>,
+    numbers: ArrayVec<LineNumber<'a>, MOST>,
+    older: ArrayVec<Option<u16>, MOST>,
     heads: [Option<u16>; BUCKETS],
 }
 
 impl<'a> Model for LineNumbers<'a> {
     ghost Value = { List (List ℕ) };
 
-    ghost view = { λ s. entered s.entries.items };
+    ghost view = { λ s. map bytes_of s.numbers.items };
 
-    ghost invariant = { λ s. Chained (entered s.entries.items) (olders s.entries.items) s.heads };
+    ghost invariant = { λ s. Chained (map bytes_of s.numbers.items) s.older.items s.heads };
 }
 
 impl<'a> LineNumbers<'a> {
@@ -39,7 +37,8 @@ impl<'a> LineNumbers<'a> {
         ensures { result ≡ [] }
     {
         LineNumbers {
-            entries: ArrayVec::new(),
+            numbers: ArrayVec::new(),
+            older: ArrayVec::new(),
             heads: [None; BUCKETS],
         }
     }
@@ -48,7 +47,8 @@ impl<'a> LineNumbers<'a> {
     pub fn clear(&mut self)
         ensures { self.new ≡ [] }
     {
-        self.entries.clear();
+        self.numbers.clear();
+        self.older.clear();
         self.heads = [None; BUCKETS];
     }
 
@@ -58,11 +58,11 @@ impl<'a> LineNumbers<'a> {
     {
         let mut next = self.heads[bucket_of(number)];
         while let Some(i) = next {
-            let entry = self.entries.as_slice()[i as usize];
-            if same_bytes(number, entry.number) {
+            let i = usize::from(i);
+            if same_bytes(number, self.numbers.as_slice()[i]) {
                 return true;
             }
-            next = entry.older;
+            next = self.older.as_slice()[i];
         }
         false
     }
@@ -73,8 +73,8 @@ impl<'a> LineNumbers<'a> {
         ensures { self.new ≡ self.old ++ number.entry.now ∷ [] }
     {
         let bucket = bucket_of(number);
-        let older = self.heads[bucket];
-        self.heads[bucket] = Some(self.entries.len() as u16);
-        self.entries.push(Entry { number, older });
+        self.older.push(self.heads[bucket]);
+        self.heads[bucket] = Some(self.numbers.len() as u16);
+        self.numbers.push(number);
     }
 }

@@ -1,6 +1,8 @@
 ghost use Rattle.std.specs.Prelude.{◌≡◌, true, false, count_by, MatchOption};
 ghost use Rattle.value.specs.Digits.{is_digit, digits, number_of, numeral};
 
+use std::str;
+
 // Whether each byte is a digit.
 pub fn is_digits(v: &[u8]) -> bool
     ensures { result ≡ digits v.now }
@@ -21,15 +23,11 @@ pub fn number(v: &[u8]) -> Option<u64>
         (numeral v.now ≡ false)
         (λ n. (numeral v.now ≡ true) × (n ≡ number_of v.now)) }
 {
-    if v.is_empty() || v.len() > 19 {
+    if v.len() > 19 || !is_digits(v) {
         return None;
     }
-    let mut value = 0;
-    for b in v {
-        if !b.is_ascii_digit() {
-            return None;
-        }
-        value = 10 * value + u64::from(*b - b'0');
-    }
-    Some(value)
+    let Ok(text) = str::from_utf8(v) else {
+        return None;
+    };
+    text.parse().ok()
 }

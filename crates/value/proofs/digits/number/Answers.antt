@@ -1,12 +1,12 @@
-use Rattle.std.proofs.Common.{◌≤◌, arith}
-use Rattle.std.proofs.lemmas.Bool.Decides.{nat_tests}
-use Rattle.value.proofs.Numbers.{below_ten_more, fits_19}
+use Rattle.std.proofs.Common.{sym, ◌∙◌, subst, arith}
+use Rattle.value.proofs.Numbers.{digits_utf8, Reads, parsed}
 use Rattle.value.proofs.digits.number.Goals as goal
 
-pub overflow_mul-value : goal.overflow_mul-value
-overflow_mul-value c = omega (arith, fits_19 _ _ (below_ten_more c.loop-b.value 0 c.loop-b.b-index c.loop-b.invariant.0 (omega arith)) (omega arith))
+pub returns-in_default : goal.returns-in_default
+returns-in_default c = absurd (c.in_default.ensures.cases.0 (digits_utf8 c.args.v.now (sym c.is_digits.ensures ∙ c.if-not-is_digits.false)))
 
-pub overflow_add-value : goal.overflow_add-value
-overflow_add-value c =
-    let d : c.from.result ≤ 9 = grind (arith, nat_tests) in
-    omega (arith, fits_19 _ _ (below_ten_more c.loop-b.value c.from.result c.loop-b.b-index c.loop-b.invariant.0 d) (omega arith))
+pub returns : goal.returns
+returns c =
+    let v = c.args.v.now in
+    let read = rw c.in-Ok.ensures.cases.0 at c.parse.ensures.value.0 in
+    subst (Reads v) (sym c.ok.ensures.value) (parsed v c.parse.result (sym c.is_digits.ensures ∙ c.if-not-is_digits.false) (omega arith) read)
