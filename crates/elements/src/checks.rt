@@ -1,6 +1,8 @@
 //! The check of a segment's elements.
-ghost use Rattle.std.specs.Prelude.{◌≡◌, suc, ◌+◌, ◌-◌, [], length, replicate, Ok, Err, MatchResult};
-ghost use Rattle.x12.specs.Lists.{each};
+ghost use Rattle.std.specs.Prelude.{◌≡◌, suc, ◌+◌, ◌-◌, ◌&&◌, [], length, replicate, Ok, Err, MatchResult};
+ghost use Rattle.x12.specs.Lists.{filled, each};
+ghost use Rattle.x12.specs.Elements.{element_of_segment};
+ghost use Rattle.guide.specs.Asked.{pairs_in};
 ghost use Rattle.x12.specs.Views.{plain};
 ghost use Rattle.elements.specs.Rules.{asks_for};
 ghost use Rattle.elements.specs.Tests.{is_unlike_pair, is_in_wrong_pair};
@@ -44,6 +46,14 @@ impl<'a, G: Guide> Subject<'a, G> {
             && is_wrong_pair(self.guide, self.segment.bytes_of(1), part)
     }
 
+    // Whether a pair rule asks that the element is filled where `other` is, and that is filled.
+    fn is_asked_by(&self, other: u8, element: u8) -> bool
+        ensures { result ≡ (pairs_in (G.meaning self.now.guide.now) self.now.row other element && filled (element_of_segment self.now.segment.delimiters.separator (plain self.now.segment) other).1) }
+    {
+        self.guide.pairs(self.row, other, element)
+            && is_filled(self.segment.bytes_of(usize::from(other)))
+    }
+
     // Whether a pair rule asks that the element is filled: one whose other element is filled.
     fn is_asked(&self, element: u8) -> bool
         ensures { result ≡ asks_for (G.meaning self.now.guide.now) self.now.segment.delimiters.separator self.now.row (plain self.now.segment) element }
@@ -52,9 +62,7 @@ impl<'a, G: Guide> Subject<'a, G> {
             return false;
         }
         for other in 0..=self.limit {
-            if self.guide.pairs(self.row, other, element)
-                && is_filled(self.segment.bytes_of(usize::from(other)))
-            {
+            if self.is_asked_by(other, element) {
                 return true;
             }
         }
