@@ -99,16 +99,11 @@ impl<'a, G: Guide> Subject<'a, G> {
     fn check_element(&self, element: Element<'_>) -> Result<(), ElementFault>
         ensures { Answers cause_of_element result (element_check (G.meaning self.now.guide.now) self.now.segment.delimiters.separator self.now.segment.number self.now.row (plain self.now.segment) element.entry.number (element.entry.place, element.entry.bytes.now)) }
     {
-        let Element { number, place, bytes } = element;
-        let at = Site {
-            segment: self.segment.number,
-            element: number,
-            place,
-        };
-        if number <= usize::from(self.limit) {
-            return self.check_named(number as u8, at, bytes);
+        let at = self.segment.site(&element);
+        if element.number <= usize::from(self.limit) {
+            return self.check_named(element.number as u8, at, element.bytes);
         }
-        if is_filled(bytes) {
+        if is_filled(element.bytes) {
             return Err(ElementFault::FilledUnused(at));
         }
         Ok(())

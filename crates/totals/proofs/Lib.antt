@@ -1,3 +1,4 @@
+pub mod Added
 pub mod Amounts
 pub mod More
 pub mod Pushes

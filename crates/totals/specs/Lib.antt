@@ -1,6 +1,7 @@
 pub mod Words
 pub mod Tests
 pub mod Fails
+pub mod Amounts
 pub mod Steps
 pub mod Keeps
 pub mod Small

@@ -6,68 +6,35 @@ ghost use Rattle.totals.specs.Fails.{cause_of_totals};
 
 use elements::faults::ElementFault;
 use placing::faults::SegmentFault;
-use x12::faults::{ByteFault, Fault};
+use x12::faults::{ByteFault, Fault, Site};
 
 // The faults of the layers 1 to 4.
-#[derive(Clone, Copy)]
+#[derive(Clone, Copy, Debug, PartialEq, Eq)]
 pub enum TotalsFault {
     Element(ElementFault),
     // A trailer does not repeat its header's control number.
-    WrongControl {
-        segment: usize,
-        place: usize,
-    },
+    WrongControl(Site),
     // A count or a sum is wrong.
-    WrongTotal {
-        segment: usize,
-        element: usize,
-        place: usize,
-    },
+    WrongTotal(Site),
     // The sum of ACK02 of a line is not its PO102.
-    UnlikeSum {
-        segment: usize,
-        place: usize,
-    },
+    UnlikeSum { segment: usize, place: usize },
     // ST02 occurs again in its group, or PO101 in its set.
-    Repeated {
-        segment: usize,
-        element: usize,
-        place: usize,
-    },
+    Repeated(Site),
 }
 
-// A fault of layer 4.
-fn of_total(number: u8, segment: usize, element: usize, place: usize) -> Fault
-    ensures { result ≡ record { number = number; layer = 4; segment = segment; element = element; place = place } }
-{
-    Fault {
-        number,
-        layer: 4,
-        segment,
-        element,
-        place,
-    }
-}
+// The number, layer, segment, element and place of the fault.
+impl From<TotalsFault> for Fault {
+    ghost from_gives = { λ f r. r ≡ cause_of_totals f };
 
-impl TotalsFault {
-    // The number, layer, segment, element and place of the fault.
-    pub fn fault(self) -> Fault
-        ensures { result ≡ cause_of_totals self }
-    {
-        match self {
-            TotalsFault::Element(lower) => lower.fault(),
-            TotalsFault::WrongControl { segment, place } => of_total(14, segment, 2, place),
-            TotalsFault::WrongTotal {
-                segment,
-                element,
-                place,
-            } => of_total(15, segment, element, place),
-            TotalsFault::UnlikeSum { segment, place } => of_total(16, segment, 0, place),
-            TotalsFault::Repeated {
-                segment,
-                element,
-                place,
-            } => of_total(17, segment, element, place),
+    fn from(fault: TotalsFault) -> Fault {
+        match fault {
+            TotalsFault::Element(lower) => Fault::from(lower),
+            TotalsFault::WrongControl(at) => Fault::new(14, at),
+            TotalsFault::WrongTotal(at) => Fault::new(15, at),
+            TotalsFault::UnlikeSum { segment, place } => {
+                Fault::new(16, Site::of_name(segment, place))
+            }
+            TotalsFault::Repeated(at) => Fault::new(17, at),
         }
     }
 }
@@ -80,10 +47,18 @@ impl From<ElementFault> for TotalsFault {
     }
 }
 
+impl From<SegmentFault> for TotalsFault {
+    ghost from_gives = { λ f r. r ≡ Element (Segment f) };
+
+    fn from(fault: SegmentFault) -> TotalsFault {
+        TotalsFault::from(ElementFault::from(fault))
+    }
+}
+
 impl From<ByteFault> for TotalsFault {
     ghost from_gives = { λ f r. r ≡ Element (Segment (Bytes f)) };
 
     fn from(fault: ByteFault) -> TotalsFault {
-        TotalsFault::Element(ElementFault::Segment(SegmentFault::Bytes(fault)))
+        TotalsFault::from(SegmentFault::from(fault))
     }
 }

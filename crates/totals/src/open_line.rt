@@ -1,38 +1,42 @@
 ghost use Rattle.std.specs.Prelude.{◌≡◌, ◌≤◌, IfSome};
+ghost use Rattle.totals.specs.Amounts.{is_ordered, ordered_in, acknowledged_in};
 ghost use Rattle.totals.specs.Steps.{line_after, is_unlike_close};
 
+use crate::amount::Amount;
+
 // A line whose loop is not closed yet: the number of its PO1 segment, its PO102, and the sum of ACK02 so far.
-#[derive(Clone, Copy)]
+#[derive(Clone, Copy, Debug, PartialEq, Eq)]
 pub struct OpenLine {
     pub number: usize,
     pub asked: u64,
     pub given: u64,
 }
 
-// The open line behind the segment with this number. Its row stands in the loop that segment `outer` opens; `line` says whether it is a line, `asked`
-// is its PO102, and `acknowledged` what it adds to the sum of ACK02.
+// The open line behind the segment with this number, which adds this amount. Its row stands in the loop that segment `outer` opens.
 pub(crate) fn line_behind(
     last: Option<OpenLine>,
     number: usize,
     outer: usize,
-    line: bool,
-    asked: u64,
-    acknowledged: u64,
+    amount: Amount,
 ) -> Option<OpenLine>
     requires small_given { IfSome last (λ l. l.given ≤ 655370000000000) }
-    requires acknowledged_bound { acknowledged ≤ 10000000000 }
-    ensures { result ≡ line_after last number outer line asked acknowledged }
+    requires acknowledged_bound { acknowledged_in amount ≤ 10000000000 }
+    ensures { result ≡ line_after last number outer (is_ordered amount) (ordered_in amount) (acknowledged_in amount) }
 {
-    if line {
-        return Some(OpenLine {
-            number,
-            asked,
-            given: 0,
-        });
-    }
+    let more = match amount {
+        Amount::Ordered(asked) => {
+            return Some(OpenLine {
+                number,
+                asked,
+                given: 0,
+            });
+        }
+        Amount::Acknowledged(n) => n,
+        Amount::Nothing => 0,
+    };
     match last {
         Some(l) if l.number <= outer => Some(OpenLine {
-            given: l.given + acknowledged,
+            given: l.given + more,
             ..l
         }),
         _ => None,
@@ -43,8 +47,5 @@ pub(crate) fn line_behind(
 pub(crate) fn closes_unlike(last: Option<OpenLine>, outer: usize) -> bool
     ensures { result ≡ is_unlike_close last outer }
 {
-    match last {
-        Some(l) => outer < l.number && l.given != l.asked,
-        None => false,
-    }
+    last.is_some_and(|l| outer < l.number && l.given != l.asked)
 }

@@ -1,7 +1,7 @@
-ghost use Rattle.std.specs.Prelude.{◌≡◌, ℕ, suc, ◌+◌, ◌^◌, ◌<◌, ◌≤◌, ◌&&◌, List, [], ◌∷◌, ◌++◌, length, IfSome, if◌then◌else◌, codes, ◌==◌, nat_eq};
+ghost use Rattle.std.specs.Prelude.{◌≡◌, ℕ, suc, ◌<◌, ◌≤◌, ◌&&◌, List, [], ◌∷◌, ◌++◌, length, IfSome, if◌then◌else◌, codes, ◌==◌, nat_eq};
 ghost use Rattle.std.specs.Str.{bytes_eq};
 ghost use Rattle.x12.specs.Lists.{filled};
-ghost use Rattle.x12.specs.Segments.{segment as as_segment};
+ghost use Rattle.x12.specs.Views.{plain};
 ghost use Rattle.guide.specs.Meaning.{Meaning};
 ghost use Rattle.placing.specs.Stages.{spot_for};
 ghost use Rattle.placing.specs.Placed.{PlacedSegment};
@@ -14,23 +14,23 @@ ghost use Rattle.seen.specs.LineNumbers.{numbers_of as line_numbers_of};
 ghost use Rattle.totals.specs.Tests.{totals_check};
 ghost use Rattle.totals.specs.Fails.{cause_of_totals};
 ghost use Rattle.totals.specs.Steps.{counted_by, sum_by_name, differs, is_unlike_close};
+ghost use Rattle.totals.specs.Amounts.{is_ordered};
 ghost use Rattle.totals.specs.Keeps.{repeated_by, unlike_control, totals_by};
 ghost use Rattle.totals.specs.Roomy.{SmallCounts};
 ghost use Rattle.totals.specs.Tally.{TallyIs};
 
-use crate::controls::{Controls, controls_behind, is_wrong_control};
-use crate::counts::{Counts, is_wrong_count, is_wrong_sum, quantity};
+use crate::amount::{Amount, amount_of};
+use crate::controls::Controls;
+use crate::counts::{Counts, is_wrong_total};
 use crate::faults::TotalsFault;
 use crate::open_line::{OpenLine, closes_unlike, line_behind};
 use crate::used_rows::UsedRows;
 use elements::limits::is_filled;
 use guide::guide::Guide;
-use placing::marks::bytes_in;
 use placing::placer::Placed;
+use placing::rows;
 use seen::control_numbers::ControlNumbers;
 use seen::line_numbers::LineNumbers;
-use value::texts::same_bytes;
-use x12::elements::part_in;
 use x12::parts::{Element, Segment};
 
 // The totals of the segments so far.
@@ -42,6 +42,13 @@ pub struct Tally<'a> {
     pub line_numbers: LineNumbers<'a>,
     pub rows: UsedRows,
     pub line: Option<OpenLine>,
+}
+
+// Whether a segment with this name is a line.
+fn is_line(name: &[u8]) -> bool
+    ensures { result ≡ bytes_eq name.now (codes "PO1") }
+{
+    matches!(name, b"PO1")
 }
 
 impl<'a> Tally<'a> {
@@ -81,136 +88,102 @@ impl<'a> Tally<'a> {
         self.rows.lacks(row, name)
     }
 
-    // The first fault of the totals at a segment of this row and with this number, name and first two elements.
+    // The first fault of the totals at a segment of this row, with this name and these first two elements.
     fn judge<G: Guide>(
         &self,
         guide: &G,
-        number: usize,
         placed: Placed,
-        place: usize,
+        segment: &Segment<'_>,
         name: &[u8],
-        first: Element<'_>,
-        second: Element<'_>,
+        first: &Element<'_>,
+        second: &Element<'_>,
     ) -> Result<(), TotalsFault>
-        requires { SmallCounts self.now.counts }
-        ensures { Answers cause_of_totals result (totals_by number place ((G.meaning guide.now).held && is_unlike_close self.now.line placed.outer)
-            first.entry.place (differs (counted_by self.now.counts placed.row name.now) first.entry.bytes.now)
-            (bytes_eq name.now (codes "PO1") && came_before first.entry.bytes.now (line_numbers_of self.now.line_numbers))
-            second.entry.place (unlike_control (repeated_by self.now.controls.isa13.now self.now.controls.gs06.now self.now.controls.st02.now placed.row name.now) second.entry.bytes.now)
-            (filled second.entry.bytes.now && differs (sum_by_name self.now.counts name.now) second.entry.bytes.now)
-            (placed.row == 1 && came_before second.entry.bytes.now (control_numbers_of self.now.set_numbers))) }
+        requires small_counts { SmallCounts self.now.counts }
+        requires numbered { (first.now.number ≡ 1) × (second.now.number ≡ 2) }
+        ensures { Answers cause_of_totals result (totals_by segment.now.number segment.now.place ((G.meaning guide.now).held && is_unlike_close self.now.line placed.outer)
+            first.now.place (differs (counted_by self.now.counts placed.row name.now) first.now.bytes.now)
+            (bytes_eq name.now (codes "PO1") && came_before first.now.bytes.now (line_numbers_of self.now.line_numbers))
+            second.now.place (unlike_control (repeated_by self.now.controls.isa13.now self.now.controls.gs06.now self.now.controls.st02.now placed.row name.now) second.now.bytes.now)
+            (filled second.now.bytes.now && differs (sum_by_name self.now.counts name.now) second.now.bytes.now)
+            (placed.row == 1 && came_before second.now.bytes.now (control_numbers_of self.now.set_numbers))) }
     {
         if guide.held() && closes_unlike(self.line, placed.outer) {
             return Err(TotalsFault::UnlikeSum {
-                segment: number,
-                place,
+                segment: segment.number,
+                place: segment.place,
             });
         }
-        if is_wrong_count(self.counts.counted(placed.row, name), first.bytes) {
-            return Err(TotalsFault::WrongTotal {
-                segment: number,
-                element: 1,
-                place: first.place,
-            });
+        if is_wrong_total(self.counts.counted(placed.row, name), first.bytes) {
+            return Err(TotalsFault::WrongTotal(segment.site(first)));
         }
-        if same_bytes(name, b"PO1") && self.line_numbers.has(first.bytes) {
-            return Err(TotalsFault::Repeated {
-                segment: number,
-                element: 1,
-                place: first.place,
-            });
+        if is_line(name) && self.line_numbers.has(first.bytes) {
+            return Err(TotalsFault::Repeated(segment.site(first)));
         }
-        if is_wrong_control(self.controls, placed.row, name, second.bytes) {
-            return Err(TotalsFault::WrongControl {
-                segment: number,
-                place: second.place,
-            });
+        if self.controls.is_wrong(placed.row, name, second.bytes) {
+            return Err(TotalsFault::WrongControl(segment.site(second)));
         }
-        if is_filled(second.bytes) && is_wrong_sum(self.counts.summed(name), second.bytes) {
-            return Err(TotalsFault::WrongTotal {
-                segment: number,
-                element: 2,
-                place: second.place,
-            });
+        if is_filled(second.bytes) && is_wrong_total(self.counts.summed(name), second.bytes) {
+            return Err(TotalsFault::WrongTotal(segment.site(second)));
         }
-        if placed.row == 1 && self.set_numbers.has(second.bytes) {
-            return Err(TotalsFault::Repeated {
-                segment: number,
-                element: 2,
-                place: second.place,
-            });
+        if placed.row == rows::ST && self.set_numbers.has(second.bytes) {
+            return Err(TotalsFault::Repeated(segment.site(second)));
         }
         Ok(())
     }
 
     // Remembers the control number of a set, or the number of a line. GS begins a group, and ST a set.
-    fn remember(&mut self, row: u8, line: bool, first: &'a [u8], second: &'a [u8])
+    fn remember(&mut self, row: u8, amount: Amount, first: &'a [u8], second: &'a [u8])
         requires few_sets { row ≡ 1 → length (control_numbers_of self.old.set_numbers) < 256 }
         requires few_lines { length (line_numbers_of self.old.line_numbers) < 16384 }
         ensures sets { control_numbers_of self.new.set_numbers ≡ (if nat_eq row 66 then [] else control_numbers_of self.old.set_numbers) ++ (if nat_eq row 1 then second.now ∷ [] else []) }
-        ensures lines { line_numbers_of self.new.line_numbers ≡ (if nat_eq row 1 then [] else line_numbers_of self.old.line_numbers) ++ (if line then first.now ∷ [] else []) }
+        ensures lines { line_numbers_of self.new.line_numbers ≡ (if nat_eq row 1 then [] else line_numbers_of self.old.line_numbers) ++ (if is_ordered amount then first.now ∷ [] else []) }
         ensures others { (self.new.counts ≡ self.old.counts) × (self.new.controls ≡ self.old.controls) × (self.new.rows ≡ self.old.rows) × (self.new.line ≡ self.old.line) }
     {
-        if row == 66 {
+        if row == rows::GS {
             self.set_numbers.clear();
         }
-        if row == 1 {
+        if row == rows::ST {
             self.set_numbers.add(second);
             self.line_numbers.clear();
         }
-        if line {
+        if matches!(amount, Amount::Ordered(_)) {
             self.line_numbers.add(first);
         }
     }
 
-    // The first fault of the totals at the segment with this number, which is placed so.
+    // The first fault of the totals at the segment, which is placed so.
     pub fn check<G: Guide>(
         &self,
         guide: &G,
-        separator: u8,
-        number: usize,
         placed: Placed,
-        segment: Segment<'_>,
+        segment: &Segment<'_>,
     ) -> Result<(), TotalsFault>
-        requires bytes_bound { segment.place + length segment.bytes.now < 2 ^ 64 }
-        requires small_counts { SmallCounts self.now.counts }
-        ensures { (z : List PlacedSegment) → TallyIs (G.meaning guide.now) separator z self.now
-            → Answers cause_of_totals result (totals_check (G.meaning guide.now) separator number z (as_segment (segment.entry.place, segment.entry.bytes.now) segment.entry.closed, spot_for placed)) }
+        requires { SmallCounts self.now.counts }
+        ensures { (z : List PlacedSegment) → TallyIs (G.meaning guide.now) segment.now.delimiters.separator z self.now
+            → Answers cause_of_totals result (totals_check (G.meaning guide.now) segment.now.delimiters.separator segment.now.number z (plain segment.now, spot_for placed)) }
     {
-        let name = bytes_in(separator, segment, 0);
-        let first = part_in(separator, segment, 1);
-        let second = part_in(separator, segment, 2);
-        self.judge(guide, number, placed, segment.place, name, first, second)
+        let name = segment.bytes_of(0);
+        let first = segment.part(1);
+        let second = segment.part(2);
+        self.judge(guide, placed, segment, name, &first, &second)
     }
 
-    // One segment more, which has this number and is placed so.
-    pub fn add<G: Guide>(
-        &mut self,
-        guide: &G,
-        separator: u8,
-        number: usize,
-        placed: Placed,
-        segment: Segment<'a>,
-    )
-        requires bytes_bound { segment.place + length segment.bytes.now < 2 ^ 64 }
+    // One segment more, which is placed so.
+    pub fn add<G: Guide>(&mut self, guide: &G, placed: Placed, segment: &Segment<'a>)
         requires small_counts { SmallCounts self.old.counts }
         requires small_given { IfSome self.old.line (λ l. l.given ≤ 655370000000000) }
         requires few_sets { placed.row ≡ 1 → length (control_numbers_of self.old.set_numbers) < 256 }
         requires few_lines { length (line_numbers_of self.old.line_numbers) < 16384 }
-        ensures { (z : List PlacedSegment) → number ≡ suc (length z) → TallyIs (G.meaning guide.now) separator z self.old
-            → TallyIs (G.meaning guide.now) separator (z ++ ((as_segment (segment.entry.place, segment.entry.bytes.now) segment.entry.closed, spot_for placed) ∷ [])) self.new }
+        ensures { (z : List PlacedSegment) → segment.now.number ≡ suc (length z) → TallyIs (G.meaning guide.now) segment.now.delimiters.separator z self.old
+            → TallyIs (G.meaning guide.now) segment.now.delimiters.separator (z ++ ((plain segment.now, spot_for placed) ∷ [])) self.new }
     {
-        let name = bytes_in(separator, segment, 0);
-        let first = bytes_in(separator, segment, 1);
-        let second = bytes_in(separator, segment, 2);
-        let line = same_bytes(name, b"PO1");
-        let amount = quantity(second);
-        let ordered = if line { amount } else { 0 };
-        let acknowledged = if same_bytes(name, b"ACK") { amount } else { 0 };
-        self.remember(placed.row, line, first, second);
-        self.counts = self.counts.behind(placed.row, line, ordered);
-        self.controls = controls_behind(self.controls, placed.row, separator, segment);
+        let first = segment.bytes_of(1);
+        let second = segment.bytes_of(2);
+        let amount = amount_of(segment.bytes_of(0), second);
+        self.remember(placed.row, amount, first, second);
+        self.counts = self.counts.behind(placed.row, amount);
+        self.controls = self.controls.behind(placed.row, segment);
         self.rows.mark(guide, placed.row, second);
-        self.line = line_behind(self.line, number, placed.outer, line, amount, acknowledged);
+        self.line = line_behind(self.line, segment.number, placed.outer, amount);
     }
 }

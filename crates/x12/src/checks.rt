@@ -5,7 +5,7 @@ ghost use Rattle.x12.specs.Causes.{cause_of};
 ghost use Rattle.x12.specs.Checks.{bad_byte, name_byte, good_name, part_check, segment_check};
 
 use crate::classes::Class;
-use crate::faults::{ByteFault, Site};
+use crate::faults::ByteFault;
 use crate::parts::{Element, Segment};
 
 // Whether no element but ISA16 may hold the byte.
@@ -44,28 +44,19 @@ fn is_name(v: &[u8]) -> bool
 }
 
 // What an element of the segment is refused for: a bad byte, else a bad name or one in a segment with no terminator.
-fn check_part(segment: &Segment<'_>, element: Element<'_>) -> Result<(), ByteFault>
+fn check_part(segment: &Segment<'_>, element: &Element<'_>) -> Result<(), ByteFault>
     ensures { MatchResult result
-        (λ u. part_check segment.now.delimiters.component segment.now.number segment.now.closed element.entry.number (element.entry.place, element.entry.bytes.now) ≡ Ok u)
-        (λ f. part_check segment.now.delimiters.component segment.now.number segment.now.closed element.entry.number (element.entry.place, element.entry.bytes.now) ≡ Err (cause_of f)) }
+        (λ u. part_check segment.now.delimiters.component segment.now.number segment.now.closed element.now.number (element.now.place, element.now.bytes.now) ≡ Ok u)
+        (λ f. part_check segment.now.delimiters.component segment.now.number segment.now.closed element.now.number (element.now.place, element.now.bytes.now) ≡ Err (cause_of f)) }
 {
-    let Element {
-        number,
-        place,
-        bytes,
-    } = element;
-    let is_isa16 = segment.number == 1 && number == 16;
-    if !is_isa16 && has_bad(segment.delimiters.component, bytes) {
-        return Err(ByteFault::WrongByte(Site {
-            segment: segment.number,
-            element: number,
-            place,
-        }));
+    let is_isa16 = segment.number == 1 && element.number == 16;
+    if !is_isa16 && has_bad(segment.delimiters.component, element.bytes) {
+        return Err(ByteFault::WrongByte(segment.site(element)));
     }
-    if number == 0 && (!segment.closed || !is_name(bytes)) {
+    if element.number == 0 && (!segment.closed || !is_name(element.bytes)) {
         return Err(ByteFault::WrongSegment {
             segment: segment.number,
-            place,
+            place: element.place,
         });
     }
     Ok(())
@@ -79,7 +70,7 @@ impl Segment<'_> {
             (λ f. segment_check self.now.delimiters.separator self.now.delimiters.component self.now.number (plain self.now) ≡ Err (cause_of f)) }
     {
         for element in self.elements() {
-            check_part(self, element)?;
+            check_part(self, &element)?;
         }
         Ok(())
     }

@@ -5,6 +5,7 @@ ghost use Rattle.x12.specs.Header.{Sound};
 ghost use Rattle.x12.specs.Views.{plain};
 ghost use Rattle.x12.specs.Elements.{element_of_segment, element_of, PartOf, HandedOut};
 
+use crate::faults::Site;
 use crate::find::find_from;
 use crate::parts::{Element, Interchange, Segment};
 
@@ -63,7 +64,7 @@ impl<'a> Segment<'a> {
     // Element `number` with its place. One that is absent has no bytes and stands at the segment's end.
     pub fn part(&self, number: usize) -> Element<'a>
         ensures { (element_of_segment self.now.delimiters.separator (plain self.now) number ≡ (result.place, result.bytes.now))
-            × PartOf self.now.bytes.now self.now.place result.place result.bytes.now }
+            × PartOf self.now.bytes.now self.now.place result.place result.bytes.now × (result.number ≡ number) }
     {
         for element in self.elements() {
             if element.number == number {
@@ -75,6 +76,17 @@ impl<'a> Segment<'a> {
             number,
             place: self.place + end,
             bytes: &self.bytes[end..],
+        }
+    }
+
+    // Where the element stands.
+    pub fn site(&self, element: &Element<'_>) -> Site
+        ensures { result ≡ record { segment = self.now.number; element = element.now.number; place = element.now.place } }
+    {
+        Site {
+            segment: self.number,
+            element: element.number,
+            place: element.place,
         }
     }
 

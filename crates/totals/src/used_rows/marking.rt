@@ -3,7 +3,7 @@ ghost use Rattle.totals.specs.Keeps.{lacks_by};
 
 use super::UsedRows;
 use guide::guide::Guide;
-use value::texts::same_bytes;
+use placing::rows;
 
 impl UsedRows {
     // No row so far.
@@ -22,9 +22,9 @@ impl UsedRows {
         ensures used { self.new.used ≡ slice_set (cond (row == 1) (replicate 256 false) self.old.used) row true }
         ensures needed { self.new.needed ≡ (if nat_eq row 2 then (G.meaning guide.now).needed second.now else self.old.needed) }
     {
-        let mut used = if row == 1 { [false; 256] } else { self.used };
+        let mut used = if row == rows::ST { [false; 256] } else { self.used };
         used[usize::from(row)] = true;
-        let needed = if row == 2 {
+        let needed = if row == rows::BAK {
             guide.needed(second)
         } else {
             self.needed
@@ -36,12 +36,9 @@ impl UsedRows {
     pub(crate) fn lacks(&self, row: u8, name: &[u8]) -> bool
         ensures { result ≡ lacks_by self.now.needed self.now.used row name.now }
     {
-        if !same_bytes(name, b"SE") {
-            return false;
-        }
-        match self.needed {
-            Some(wanted) => !(self.used[usize::from(wanted)] || row == wanted),
-            None => false,
+        match (name, self.needed) {
+            (b"SE", Some(wanted)) => !(self.used[usize::from(wanted)] || row == wanted),
+            _ => false,
         }
     }
 }
