@@ -168,7 +168,7 @@ module _ (m : Meaning) (I : List ℕ) (u : Unit {0}) (sound : header_check I ≡
           subst (λ (k : ℕ). First (Met m I) (fault 7 k 0 (length I))) e
           (ends_refused m I u sound z all_judged quiet_end (subst (λ (l : List Segment). OnlyBegun (label_of m) (rows_of m) (marks_in (separator_of I) l)) all_judged d))
 
-      pub whole : (j : Judgment) → j.segments ≡ count → j.loops ≡ loops → j.sets ≡ tally.counts.sets → j.lines ≡ tally.counts.lines → j.sum ≡ tally.counts.sum
+      pub whole : (j : Judgment) → j.totals.segments ≡ count → j.loops ≡ loops → j.totals.sets ≡ tally.counts.sets → j.totals.lines ≡ tally.counts.lines → j.totals.sum ≡ tally.counts.sum
           → OneDerivation (label_of m) (rows_of m) (marks_in (separator_of I) (segments_in z)) → JudgedSo m I j
       whole j a b c d e one =
           let one' = subst (λ (l : List Segment). OneDerivation (label_of m) (rows_of m) (marks_in (separator_of I) l)) all_judged one in

@@ -18,8 +18,8 @@ pub record JudgedSo (m : Meaning) (I : List ℕ) (j : Judgment) : Type 0 where
   pub derivation : List PlacedSegment
   pub derived : DerivedSo m I derivation
   pub one : OneDerivation (label_of m) (rows_of m) (marks_in (separator_of I) (segments_of I))
-  pub segments : j.segments ≡ length derivation
+  pub segments : j.totals.segments ≡ length derivation
   pub loops : j.loops ≡ loops_in derivation
-  pub sets : j.sets ≡ count_of (has_row 1) derivation
-  pub lines : j.lines ≡ lines_in (separator_of I) derivation
-  pub sum : j.sum ≡ sum_in (separator_of I) derivation
+  pub sets : j.totals.sets ≡ count_of (has_row 1) derivation
+  pub lines : j.totals.lines ≡ lines_in (separator_of I) derivation
+  pub sum : j.totals.sum ≡ sum_in (separator_of I) derivation

@@ -6,9 +6,8 @@ use crate::judging::judge;
 use guide::guide::Guide;
 use results::fill::fill;
 use results::rows::{LoopRow, SegmentRow};
-use totals::faults::TotalsFault;
 use verdict::verdicts::Totals;
-use x12::header::read_header;
+use x12::parts::Interchange;
 
 // Judges the interchange under the guide. Where it is accepted, the two tables hold its derivation; where it is refused, they stay as they were.
 pub fn read<G: Guide>(
@@ -19,19 +18,11 @@ pub fn read<G: Guide>(
 ) -> Result<Totals, ReadingFault>
     ensures { ReadingIs (G.meaning guide.now) interchange.now segments.old segments.new loops.old loops.new result }
 {
-    let delimiters = match read_header(interchange) {
-        Ok(delimiters) => delimiters,
-        Err(fault) => return Err(ReadingFault::Judged(TotalsFault::from(fault))),
-    };
-    let judgment = judge(guide, interchange, delimiters)?;
-    if judgment.segments > segments.len() || judgment.loops > loops.len() {
+    let read = Interchange::read(interchange)?;
+    let judgment = judge(guide, &read)?;
+    if judgment.totals.segments > segments.len() || judgment.loops > loops.len() {
         return Err(ReadingFault::FewRows);
     }
-    fill(guide, interchange, delimiters, segments, loops);
-    Ok(Totals {
-        segments: judgment.segments,
-        sets: judgment.sets,
-        lines: judgment.lines,
-        sum: judgment.sum,
-    })
+    fill(guide, &read, segments, loops);
+    Ok(judgment.totals)
 }

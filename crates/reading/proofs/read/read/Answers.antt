@@ -16,7 +16,7 @@ use Rattle.reading.proofs.Promises.{promise_accepted, promise_few, promise_refus
 use Rattle.reading.proofs.read.read.Goals as goal
 
 -- the totals of a judgment
-told : (m : Meaning) (I : List ℕ) (j : Judgment) (s : JudgedSo m I j) → record { segments = j.segments; sets = j.sets; lines = j.lines; sum = j.sum } ≡ totals_of I s.derivation
+told : (m : Meaning) (I : List ℕ) (j : Judgment) (s : JudgedSo m I j) → j.totals ≡ totals_of I s.derivation
 told m I j s = (λ i. record { segments = s.segments i; sets = s.sets i; lines = s.lines i; sum = s.sum i })
 
 pub returns-in-Err : goal.returns-in-Err

@@ -2,7 +2,8 @@ use Rattle.std.proofs.Common.{◌≡◌, ℕ, Bool, List, Ok, Err, Result, sym, 
 use Rattle.std.proofs.lemmas.Result.{err_from_is_err_and}
 use Rattle.x12.specs.declared.faults.Fault.{Fault}
 use Rattle.x12.specs.Lists.{and_then}
-use Rattle.x12.specs.Segments.{Segment, segment}
+use Rattle.x12.specs.Segments.{Segment}
+use Rattle.x12.specs.Views.{plain}
 use Rattle.guide.specs.Meaning.{Meaning}
 use Rattle.placing.specs.declared.placer.Placed.{Placed}
 use Rattle.placing.specs.Stages.{spot_for}
@@ -25,29 +26,29 @@ stopped cause r f check e h = subst (λ (x : Result Placed ElementFault). Answer
 pub returns-in_err-placed : goal.returns-in_err-placed
 returns-in_err-placed g c =
     let m = g.G.Guide.meaning c.args.guide.now in
-    let x = c.args.delimiters.separator in
-    let s : Segment = segment (c.args.segment.place, c.args.segment.bytes.now) c.args.segment.closed in
+    let x = c.args.segment.now.delimiters.separator in
+    let s : Segment = plain c.args.segment.now in
     let t = c.in_err-placed.ensures in
     let p = err_from_is_err_and c.from_residual.result c.from_residual.ensures.1 in (
       t.0,
       t.1,
       λ z is. stopped cause_of_element c.from_residual.result p.0 _ p.1
-          (ap (λ (r : Result Placed Fault). and_then r (behind m x c.args.number z s)) t.2 ∙ ap (λ (f : ElementFault). Err (cause_of_element f)) (sym p.2)),
+          (ap (λ (r : Result Placed Fault). and_then r (behind m x c.args.segment.now.number z s)) t.2 ∙ ap (λ (f : ElementFault). Err (cause_of_element f)) (sym p.2)),
     )
 
 pub returns-in_err-check_elements : goal.returns-in_err-check_elements
 returns-in_err-check_elements g c =
     let m = g.G.Guide.meaning c.args.guide.now in
-    let x = c.args.delimiters.separator in
-    let s : Segment = segment (c.args.segment.place, c.args.segment.bytes.now) c.args.segment.closed in
+    let x = c.args.segment.now.delimiters.separator in
+    let s : Segment = plain c.args.segment.now in
     let placed = c.in_ok-placed.placed in
     let t = c.in_ok-placed.ensures in
     let p = err_from_is_err_and c.from_residual-in_err-check_elements.result c.from_residual-in_err-check_elements.ensures.1 in (
       t.0,
       t.1,
       λ z is. stopped cause_of_element c.from_residual-in_err-check_elements.result p.0 _ p.1
-          (ap (λ (r : Result Placed Fault). and_then r (behind m x c.args.number z s)) t.2
-          ∙ ap (λ (b : Bool). and_then (elements_check m x c.args.number b placed.row s) (λ u. Ok placed)) (sym (c.lacks_row-lacking.ensures m x z (s, spot_for placed) is refl (sym c.bytes_in-name.ensures)))
+          (ap (λ (r : Result Placed Fault). and_then r (behind m x c.args.segment.now.number z s)) t.2
+          ∙ ap (λ (b : Bool). and_then (elements_check m x c.args.segment.now.number b placed.row s) (λ u. Ok placed)) (sym (c.lacks_row-lacking.ensures m x z (s, spot_for placed) is refl (sym c.bytes_of.ensures)))
           ∙ ap (λ (r : Result (Unit {0}) Fault). and_then r (λ u. Ok placed)) c.in_err-check_elements.ensures
           ∙ ap (λ (f : ElementFault). Err (cause_of_element f)) (sym p.2)),
     )
@@ -55,13 +56,13 @@ returns-in_err-check_elements g c =
 pub returns : goal.returns
 returns g c =
     let m = g.G.Guide.meaning c.args.guide.now in
-    let x = c.args.delimiters.separator in
-    let s : Segment = segment (c.args.segment.place, c.args.segment.bytes.now) c.args.segment.closed in
+    let x = c.args.segment.now.delimiters.separator in
+    let s : Segment = plain c.args.segment.now in
     let placed = c.in_ok-placed.placed in
     let t = c.in_ok-placed.ensures in (
       t.0,
       t.1,
-      λ z is. ap (λ (r : Result Placed Fault). and_then r (behind m x c.args.number z s)) t.2
-          ∙ ap (λ (b : Bool). and_then (elements_check m x c.args.number b placed.row s) (λ u. Ok placed)) (sym (c.lacks_row-lacking.ensures m x z (s, spot_for placed) is refl (sym c.bytes_in-name.ensures)))
+      λ z is. ap (λ (r : Result Placed Fault). and_then r (behind m x c.args.segment.now.number z s)) t.2
+          ∙ ap (λ (b : Bool). and_then (elements_check m x c.args.segment.now.number b placed.row s) (λ u. Ok placed)) (sym (c.lacks_row-lacking.ensures m x z (s, spot_for placed) is refl (sym c.bytes_of.ensures)))
           ∙ ap (λ (r : Result (Unit {0}) Fault). and_then r (λ u. Ok placed)) c.in_ok-check_elements.ensures,
     )

@@ -1,6 +1,7 @@
 use Rattle.std.proofs.Common.{◌≡◌, ℕ, List, Some, Err, Option, Result, sym, ap, ◌∙◌, subst}
 use Rattle.std.proofs.lemmas.Result.{err_from_is_err_and}
-use Rattle.x12.specs.Segments.{Segment, segment}
+use Rattle.x12.specs.Segments.{Segment}
+use Rattle.x12.specs.Views.{plain}
 use Rattle.grammar.specs.Derivations.{Spot}
 use Rattle.guide.specs.Asked.{over}
 use Rattle.guide.specs.Meaning.{Meaning}
@@ -26,10 +27,10 @@ stopped m x k₀ k z s p t r f o e h q = subst (λ (y : Result Placed TotalsFaul
 pub returns-in_err-placed : goal.returns-in_err-placed
 returns-in_err-placed g c = λ z st.
     let m = g.G.Guide.meaning c.args.guide.now in
-    let x = c.args.delimiters.separator in
-    let k₀ = c.args.delimiters.component in
-    let k = c.args.number in
-    let s : Segment = segment (c.args.segment.place, c.args.segment.bytes.now) c.args.segment.closed in
+    let x = c.args.segment.now.delimiters.separator in
+    let k₀ = c.args.segment.now.delimiters.component in
+    let k = c.args.segment.now.number in
+    let s : Segment = plain c.args.segment.now in
     let t = c.in_err-placed.ensures in
     let p = err_from_is_err_and c.from_residual.result c.from_residual.ensures.1 in
     stopped m x k₀ k z s c.judge_elements.new.placer c.args.tally.now c.from_residual.result p.0 (over spot_for t.0) p.1
@@ -39,16 +40,16 @@ returns-in_err-placed g c = λ z st.
 pub check-requires : goal.check-requires
 check-requires g c =
     let m = g.G.Guide.meaning c.args.guide.now in
-    let st = c.requires.stands.1 in
-    record { bytes_bound = c.requires.bytes_bound; small_counts = small_counts_lem m c.args.delimiters.separator c.requires.stands.0 c.args.tally.now st.counted st.few }
+    let st = c.requires.1 in
+    small_counts_lem m c.args.segment.now.delimiters.separator c.requires.0 c.args.tally.now st.counted st.few
 
 pub returns-in_err-check : goal.returns-in_err-check
 returns-in_err-check g c = λ z st.
     let m = g.G.Guide.meaning c.args.guide.now in
-    let x = c.args.delimiters.separator in
-    let k₀ = c.args.delimiters.component in
-    let k = c.args.number in
-    let s : Segment = segment (c.args.segment.place, c.args.segment.bytes.now) c.args.segment.closed in
+    let x = c.args.segment.now.delimiters.separator in
+    let k₀ = c.args.segment.now.delimiters.component in
+    let k = c.args.segment.now.number in
+    let s : Segment = plain c.args.segment.now in
     let placed = c.in_ok-placed.placed in
     let t = c.in_ok-placed.ensures in
     let low = lower_passed m x k₀ k z s t.0 placed (t.2 z st.counted) in
@@ -60,15 +61,14 @@ returns-in_err-check g c = λ z st.
 pub add-requires : goal.add-requires
 add-requires g c =
     let m = g.G.Guide.meaning c.args.guide.now in
-    let x = c.args.delimiters.separator in
-    let z = c.requires.stands.0 in
-    let st = c.requires.stands.1 in
-    let s : Segment = segment (c.args.segment.place, c.args.segment.bytes.now) c.args.segment.closed in
+    let x = c.args.segment.now.delimiters.separator in
+    let z = c.requires.0 in
+    let st = c.requires.1 in
+    let s : Segment = plain c.args.segment.now in
     let placed = c.in_ok-placed.placed in
     let t = c.in_ok-placed.ensures in
-    let low = lower_passed m x c.args.delimiters.component c.args.number z s t.0 placed (t.2 z st.counted) in
-    let h : Placement m x z s (Some (spot_for placed)) = subst (λ (o : Option Placed). Placement m x z s (over spot_for o)) low.1 (placement m x c.args.number z s c.args.placer.now _ st.placed st.number t.0 t.1) in record {
-      bytes_bound = c.requires.bytes_bound;
+    let low = lower_passed m x c.args.segment.now.delimiters.component c.args.segment.now.number z s t.0 placed (t.2 z st.counted) in
+    let h : Placement m x z s (Some (spot_for placed)) = subst (λ (o : Option Placed). Placement m x z s (over spot_for o)) low.1 (placement m x c.args.segment.now.number z s c.args.placer.now _ st.placed st.number t.0 t.1) in record {
       small_counts = small_counts_lem m x z c.args.tally.now st.counted st.few;
       small_given = small_given m x z c.args.tally.now st.counted st.few;
       few_sets = few_control_numbers m x z c.args.tally.now st.counted (g.G.Guide.lawful c.args.guide.now) s (spot_for placed) st.only h;
@@ -78,10 +78,10 @@ add-requires g c =
 pub returns : goal.returns
 returns g c = λ z st.
     let m = g.G.Guide.meaning c.args.guide.now in
-    let x = c.args.delimiters.separator in
-    let k₀ = c.args.delimiters.component in
-    let k = c.args.number in
-    let s : Segment = segment (c.args.segment.place, c.args.segment.bytes.now) c.args.segment.closed in
+    let x = c.args.segment.now.delimiters.separator in
+    let k₀ = c.args.segment.now.delimiters.component in
+    let k = c.args.segment.now.number in
+    let s : Segment = plain c.args.segment.now in
     let placed = c.in_ok-placed.placed in
     let t = c.in_ok-placed.ensures in
     let low = lower_passed m x k₀ k z s t.0 placed (t.2 z st.counted) in
