@@ -6,7 +6,7 @@ use Rattle.std.proofs.lemmas.Bool.{cases_Bool, cases_lt}
 use Rattle.std.proofs.lemmas.List.{get_or-map, length-map}
 use Rattle.seen.specs.Buckets.{bucket_number}
 use Rattle.seen.specs.Came.{bytes_of}
-use Rattle.seen.specs.Chains.{last_of}
+use Rattle.seen.specs.Chains.{latest}
 use Rattle.seen.proofs.Lasts.{bucket_at, up_to, last_is}
 
 -- what is read of the numbers, which are kept as references, and of what is older
@@ -31,12 +31,12 @@ module _ (ns : List (List ℕ)) (v : List ℕ) where
       (λ f. f)
       (cases_Bool (bytes_eq v (get_or ns i [])))
 
-  pub walk_start : Walk ns v (last_of ns (bucket_number v) (length ns))
+  pub walk_start : Walk ns v (latest ns (bucket_number v) (length ns))
   walk_start =
       let last = last_is ns (bucket_number v) (length ns) in
       record { within = last.within; here = last.here; past = λ i from lt. differ i (last.past i from lt) }
 
-  pub walk_more : (k : ℕ) → Walk ns v (Some k) → bytes_eq v (get_or ns k []) ≡ false → Walk ns v (last_of ns (bucket_at ns k) k)
+  pub walk_more : (k : ℕ) → Walk ns v (Some k) → bytes_eq v (get_or ns k []) ≡ false → Walk ns v (latest ns (bucket_at ns k) k)
   walk_more k w other =
       let last = last_is ns (bucket_at ns k) k in
       let same = w.here k refl in
@@ -55,5 +55,5 @@ module _ (ns : List (List ℕ)) (v : List ℕ) where
       }
 
   -- the next number is nearer to the end
-  pub nearer : (k : ℕ) (older next : Option ℕ) → older ≡ last_of ns (bucket_at ns k) k → next ≡ Some k → up_to older < up_to next
+  pub nearer : (k : ℕ) (older next : Option ℕ) → older ≡ latest ns (bucket_at ns k) k → next ≡ Some k → up_to older < up_to next
   nearer k older next e s = omega (arith, (last_is ns (bucket_at ns k) k).within, ap up_to e, ap up_to s)

@@ -8,7 +8,7 @@ use value::texts::same_bytes;
 // The control number of a set: that very part of the interchange.
 pub type ControlNumber<'a> = &'a [u8];
 
-// The control numbers of the sets of one group, in the order in which they came.
+// The control numbers of the sets of one group, in the order in which they came: so few that they have no buckets.
 #[derive(Drop)]
 pub struct ControlNumbers<'a> {
     numbers: ArrayVec<ControlNumber<'a>, 256>,

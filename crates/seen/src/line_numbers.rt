@@ -1,6 +1,6 @@
 ghost use Rattle.std.specs.Prelude.{◌≡◌, ◌<◌, ℕ, List, [], ◌∷◌, ◌++◌, map, length};
 ghost use Rattle.seen.specs.Came.{bytes_of, came_before};
-ghost use Rattle.seen.specs.Chains.{Chained};
+ghost use Rattle.seen.specs.Chains.{Linked};
 
 use crate::buckets::{BUCKETS, bucket_of};
 use arrayvec::ArrayVec;
@@ -28,7 +28,7 @@ impl<'a> Model for LineNumbers<'a> {
 
     ghost view = { λ s. map bytes_of s.numbers.items };
 
-    ghost invariant = { λ s. Chained (map bytes_of s.numbers.items) s.older.items s.heads };
+    ghost invariant = { λ s. Linked (map bytes_of s.numbers.items) s.older.items s.heads };
 }
 
 impl<'a> LineNumbers<'a> {
