@@ -5,6 +5,7 @@ use guides::guide_b::GuideB;
 use placing::structure::check_structure;
 use std::io;
 use std::io::Read;
+use x12::faults::Fault;
 
 // One byte more than an interchange may have is enough to tell that it is too long.
 const MOST: u64 = 65_537;
@@ -17,12 +18,6 @@ fn main(rt: HostRuntime) -> io::Result<()> {
         Ok(count) => println!(rt;
             "READ {count} segments; bytes and structure are sound; elements and totals are not judged yet"
         ),
-        Err(fault) => {
-            let f = fault.fault();
-            println!(rt;
-                "REFUSED {} {} {} {} {}",
-                f.number, f.layer, f.segment, f.element, f.place
-            )
-        }
+        Err(fault) => println!(rt; "REFUSED {}", Fault::from(fault)),
     }
 }

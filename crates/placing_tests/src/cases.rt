@@ -1,4 +1,5 @@
 use guide::guide::Guide;
+use guide::rules::Mark;
 use guides::guide_b::GuideB;
 use guides::guide_m::GuideM;
 use guides::guide_odd::GuideOdd;
@@ -24,7 +25,7 @@ macro_rules! interchange {
 fn answer<G: Guide>(guide: &G, interchange: &[u8]) -> Result<usize, Fault> {
     match check_structure(guide, interchange) {
         Ok(count) => Ok(count),
-        Err(fault) => Err(fault.fault()),
+        Err(fault) => Err(Fault::from(fault)),
     }
 }
 
@@ -419,24 +420,28 @@ fn check_placed(
     }
 }
 
+fn mark<'a>(name: &'a [u8], first: &'a [u8]) -> Mark<'a> {
+    Mark { name, first }
+}
+
 #[test]
 fn an_sch_after_the_second_ack_belongs_to_that_ack(rt: HostRuntime) -> Result<(), Fail> {
     let mut placer = Placer::start();
-    check_placed(&rt, placer.place(&GuideB, 1, b"ISA", b""), 65, 0, 0)?;
-    check_placed(&rt, placer.place(&GuideB, 2, b"GS", b""), 66, 0, 0)?;
-    check_placed(&rt, placer.place(&GuideB, 3, b"ST", b""), 1, 0, 0)?;
-    check_placed(&rt, placer.place(&GuideB, 4, b"BAK", b""), 2, 0, 0)?;
-    check_placed(&rt, placer.place(&GuideB, 5, b"CUR", b""), 3, 0, 0)?;
-    check_placed(&rt, placer.place(&GuideB, 6, b"N1", b"BT"), 4, 0, 0)?;
-    check_placed(&rt, placer.place(&GuideB, 7, b"N1", b"ST"), 5, 0, 0)?;
-    check_placed(&rt, placer.place(&GuideB, 8, b"N1", b"VN"), 6, 0, 0)?;
-    check_placed(&rt, placer.place(&GuideB, 9, b"PO1", b""), 7, 9, 0)?;
-    check_placed(&rt, placer.place(&GuideB, 10, b"ACK", b""), 10, 10, 9)?;
-    check_placed(&rt, placer.place(&GuideB, 11, b"ACK", b""), 10, 11, 9)?;
-    check_placed(&rt, placer.place(&GuideB, 12, b"SCH", b""), 11, 11, 11)?;
+    check_placed(&rt, placer.place(&GuideB, 1, mark(b"ISA", b"")), 65, 0, 0)?;
+    check_placed(&rt, placer.place(&GuideB, 2, mark(b"GS", b"")), 66, 0, 0)?;
+    check_placed(&rt, placer.place(&GuideB, 3, mark(b"ST", b"")), 1, 0, 0)?;
+    check_placed(&rt, placer.place(&GuideB, 4, mark(b"BAK", b"")), 2, 0, 0)?;
+    check_placed(&rt, placer.place(&GuideB, 5, mark(b"CUR", b"")), 3, 0, 0)?;
+    check_placed(&rt, placer.place(&GuideB, 6, mark(b"N1", b"BT")), 4, 0, 0)?;
+    check_placed(&rt, placer.place(&GuideB, 7, mark(b"N1", b"ST")), 5, 0, 0)?;
+    check_placed(&rt, placer.place(&GuideB, 8, mark(b"N1", b"VN")), 6, 0, 0)?;
+    check_placed(&rt, placer.place(&GuideB, 9, mark(b"PO1", b"")), 7, 9, 0)?;
+    check_placed(&rt, placer.place(&GuideB, 10, mark(b"ACK", b"")), 10, 10, 9)?;
+    check_placed(&rt, placer.place(&GuideB, 11, mark(b"ACK", b"")), 10, 11, 9)?;
+    check_placed(&rt, placer.place(&GuideB, 12, mark(b"SCH", b"")), 11, 11, 11)?;
     // a segment that has no place leaves the placer as it was
-    assert!(rt; placer.place(&GuideB, 13, b"CUR", b"").is_none());
-    check_placed(&rt, placer.place(&GuideB, 13, b"PO1", b""), 7, 13, 0)?;
+    assert!(rt; placer.place(&GuideB, 13, mark(b"CUR", b"")).is_none());
+    check_placed(&rt, placer.place(&GuideB, 13, mark(b"PO1", b"")), 7, 13, 0)?;
     assert!(rt; !placer.is_whole());
     Ok(())
 }

@@ -2,7 +2,7 @@ use guides::guide_b::GuideB;
 use results::fill::fill;
 use results::rows::{LoopRow, SegmentRow};
 use std::test::Fail;
-use x12::header::read_header;
+use x12::parts::Interchange;
 
 // An interchange with the header and the first segments of the base interchange.
 macro_rules! interchange {
@@ -55,12 +55,12 @@ fn base_interchange(rt: HostRuntime) -> Result<(), Fail> {
     let base = interchange!(
         "ACK*IA*5*EA************************BI*ACK*AC~CTT*1*5~SE*10*0001~GE*1*7~IEA*1*000000007~"
     );
-    let Ok(delimiters) = read_header(base) else {
+    let Ok(read) = Interchange::read(base) else {
         return Err(Fail::new("a sound header"));
     };
     let mut segments = [NO_SEGMENT; 15];
     let mut loops = [NO_LOOP; 3];
-    fill(&GuideB, base, delimiters, &mut segments, &mut loops);
+    fill(&GuideB, &read, &mut segments, &mut loops);
     assert_eq!(rt; segments[0], segment(0, 105, 0, 0));
     assert_eq!(rt; segments[1], segment(106, 51, 0, 0));
     assert_eq!(rt; segments[2], segment(158, 11, 1, 0));
@@ -81,12 +81,12 @@ fn two_acknowledgments(rt: HostRuntime) -> Result<(), Fail> {
     let text = interchange!(
         "ACK*IA*2*EA************************BI*ACK*AC~ACK*IA*3*EA************************BI*ACK*AC~SCH*3*EA***067*20050701~CTT*1*5~SE*12*0001~GE*1*7~IEA*1*000000007~"
     );
-    let Ok(delimiters) = read_header(text) else {
+    let Ok(read) = Interchange::read(text) else {
         return Err(Fail::new("a sound header"));
     };
     let mut segments = [NO_SEGMENT; 16];
     let mut loops = [NO_LOOP; 3];
-    fill(&GuideB, text, delimiters, &mut segments, &mut loops);
+    fill(&GuideB, &read, &mut segments, &mut loops);
     assert_eq!(rt;
         [
             segments[8].around,

@@ -8,6 +8,7 @@ use std::alloc::Global;
 use std::io::{Read, Write};
 use verdict::telling::verdict_line;
 use verdict::verdicts::Verdict;
+use x12::faults::Fault;
 
 // One byte more than an interchange may have is enough to tell that it is too long.
 const MOST: u64 = 65_537;
@@ -35,7 +36,7 @@ fn judged(heap: Global, interchange: &[u8]) -> anyhow::Result<Verdict> {
     let mut loops = vec![in heap; NO_LOOP; ROWS]?;
     match read(&GuideB, interchange, &mut segments, &mut loops) {
         Ok(totals) => Ok(Verdict::Accepted(totals)),
-        Err(fault) => Ok(Verdict::Refused(fault.fault())),
+        Err(fault) => Ok(Verdict::Refused(Fault::from(fault))),
     }
 }
 

@@ -6,6 +6,7 @@ pub mod Segments
 pub mod Elements
 pub mod Views
 pub mod Causes
+pub mod Told
 pub mod Rank
 pub mod Checks
 pub mod Met

@@ -1,5 +1,8 @@
-ghost use Rattle.std.specs.Prelude.{◌≡◌};
+ghost use Rattle.std.specs.Prelude.{◌≡◌, Some};
 ghost use Rattle.x12.specs.Causes.{layer_of, fault, cause_of};
+ghost use Rattle.x12.specs.Told.{numbers_of};
+
+use std::fmt;
 
 // What a refusal says: its number, its layer, the segment and the element that it stands at, and the byte place. The verdict line tells these
 // five numbers, and they are compared as numbers; what is refused is said by the enums of faults.
@@ -59,6 +62,22 @@ impl Fault {
             element: at.element,
             place: at.place,
         }
+    }
+}
+
+// The five numbers in decimal, with one space between two.
+impl fmt::Display for Fault {
+    ghost output = { λ f. Some (numbers_of f) };
+
+    fn fmt<W: fmt::Write>(&self, f: &mut fmt::Formatter<W>) -> fmt::Result {
+        let Fault {
+            number,
+            layer,
+            segment,
+            element,
+            place,
+        } = *self;
+        write!(f, "{number} {layer} {segment} {element} {place}")
     }
 }
 

@@ -19,7 +19,7 @@ macro_rules! interchange {
 fn answer(interchange: &[u8]) -> Result<usize, Fault> {
     match scan(interchange) {
         Ok(count) => Ok(count),
-        Err(fault) => Err(fault.fault()),
+        Err(fault) => Err(Fault::from(fault)),
     }
 }
 
