@@ -1,5 +1,5 @@
 -- The elements of a segment, one after the other.
-use Rattle.std.proofs.Common.{◌≡◌, ℕ, suc, ◌+◌, ◌-◌, ◌<◌, ◌≤◌, List, [], ◌∷◌, length, replicate, Some, None, Option, IfSome, sym, ap, ◌∙◌, subst, add-zero, arith}
+use Rattle.std.proofs.Common.{◌≡◌, ℕ, suc, ◌+◌, ◌-◌, ◌≤◌, List, [], ◌∷◌, length, replicate, Some, None, Option, IfSome, sym, ap, ◌∙◌, subst, add-zero, arith}
 use Rattle.x12.specs.declared.parts.Element.{Element}
 use Rattle.x12.specs.declared.parts.Segment.{Segment as SegmentValue}
 use Rattle.x12.specs.declared.elements.Elements.{Elements}
@@ -22,12 +22,11 @@ pub behind_name : (s : SegmentValue) (r : Option Element) (it t : Elements) → 
 behind_name s None it t e a n h =
     let p = parts_head s.bytes.now s.delimiters.separator s.place in
     absurd (none_first (sym h ∙ (λ i. parts_from (e i) (a i)) ∙ sym (all_parts s) ∙ p.2))
-behind_name s (Some x) it t e a n h =
-    (
-      h.same ∙ e,
-      subst (λ (k : ℕ). IfSome t.at (λ _. t.number ≡ suc k)) n h.followed,
-      ap behind_first (all_parts s ∙ (λ i. parts_from (sym e i) (sym a i)) ∙ h.first) ∙ (λ i. parts_from (e i) t.at),
-    )
+behind_name s (Some x) it t e a n h = (
+  h.same ∙ e,
+  subst (λ (k : ℕ). IfSome t.at (λ _. t.number ≡ suc k)) n h.followed,
+  ap behind_first (all_parts s ∙ (λ i. parts_from (sym e i) (sym a i)) ∙ h.first) ∙ (λ i. parts_from (e i) t.at),
+)
 
 some_number : (s : SegmentValue) (at : Option ℕ) (p : Part) (ps : List Part) (n m : ℕ) → parts_from s at ≡ p ∷ ps → IfSome at (λ _. n ≡ m) → n ≡ m
 some_number s None p ps n m e h = absurd (none_first e)

@@ -11,7 +11,9 @@ ghost use Rattle.elements.specs.Limits.{admits_at, wrong_code_by, tests_with};
 ghost use Rattle.elements.specs.Fails.{cause_of_element};
 
 use crate::faults::ElementFault;
-use crate::limits::{has_wrong_length, has_wrong_type, is_excess, is_filled, is_judged, is_lacking};
+use crate::limits::{
+    has_wrong_length, has_wrong_type, is_excess, is_filled, is_judged, is_lacking,
+};
 use crate::subject::Subject;
 use guide::guide::Guide;
 use guide::rules::{Kind, Rule};

@@ -21,8 +21,14 @@ impl From<SegmentFault> for Fault {
     fn from(fault: SegmentFault) -> Fault {
         match fault {
             SegmentFault::Bytes(bytes) => Fault::from(bytes),
-            SegmentFault::Misplaced { segment, place } => Fault::new(6, Site::of_name(segment, place)),
-            SegmentFault::Incomplete { segment, place } => Fault::new(7, Site::of_name(segment, place)),
+            SegmentFault::Misplaced { segment, place } => Fault::new(
+                6,
+                Site::of_name(segment, place),
+            ),
+            SegmentFault::Incomplete { segment, place } => Fault::new(
+                7,
+                Site::of_name(segment, place),
+            ),
         }
     }
 }

@@ -34,12 +34,7 @@ impl Placer {
     }
 
     // The place of the next segment, which has this number and this mark. None: no derivation goes on so, and the placer stays.
-    pub fn place<G: Guide>(
-        &mut self,
-        guide: &G,
-        segment: usize,
-        mark: Mark<'_>,
-    ) -> Option<Placed>
+    pub fn place<G: Guide>(&mut self, guide: &G, segment: usize, mark: Mark<'_>) -> Option<Placed>
         ensures { PlacesNext (G.meaning guide.now) self.old self.new segment (marked mark.entry) result }
     {
         let step = next_step(guide, self, segment, mark)?;

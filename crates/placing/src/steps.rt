@@ -80,12 +80,7 @@ fn outside(row: u8) -> Placed
 }
 
 // A segment inside a set: its row is searched, and SE closes the set.
-fn inside<G: Guide>(
-    guide: &G,
-    placer: &Placer,
-    segment: usize,
-    mark: Mark<'_>,
-) -> Option<Step>
+fn inside<G: Guide>(guide: &G, placer: &Placer, segment: usize, mark: Mark<'_>) -> Option<Step>
     ensures { placer.now.phase ≡ Set → Steps (G.meaning guide.now) placer.now segment (marked mark.entry) result }
 {
     let choice = find(guide, &placer.set, mark)?;
@@ -103,12 +98,7 @@ fn inside<G: Guide>(
 }
 
 // ST begins a set, if the guide takes it.
-fn begin_set<G: Guide>(
-    guide: &G,
-    placer: &Placer,
-    sets: u32,
-    mark: Mark<'_>,
-) -> Option<Step>
+fn begin_set<G: Guide>(guide: &G, placer: &Placer, sets: u32, mark: Mark<'_>) -> Option<Step>
     ensures { MatchOption result (fits_row (G.meaning guide.now) 1 mark.entry.name.now mark.entry.first.now ≡ false)
         (λ step. (fits_row (G.meaning guide.now) 1 mark.entry.name.now mark.entry.first.now ≡ true) × SetBegins placer.now.groups sets step) }
 {

@@ -13,10 +13,7 @@ use x12::parts::Interchange;
 use x12::scans::scan;
 
 // The segments of an interchange, placed one after the other: how many they are, or the fault of structure that is met.
-fn place_segments<G: Guide>(
-    guide: &G,
-    interchange: &Interchange<'_>,
-) -> Result<usize, SegmentFault>
+fn place_segments<G: Guide>(guide: &G, interchange: &Interchange<'_>) -> Result<usize, SegmentFault>
     ensures { interchange.now.delimiters.terminator ≡ terminator_of interchange.now.bytes.now → interchange.now.delimiters.separator ≡ separator_of interchange.now.bytes.now
         → MatchResult result
         (λ n. NoneOf (StructureMet (G.meaning guide.now) interchange.now.bytes.now) × (n ≡ length (segments_of interchange.now.bytes.now)))

@@ -1,7 +1,6 @@
 -- The last segment of a loop, one segment on.
-use Rattle.std.proofs.Common.{◌≡◌, ℕ, suc, ◌+◌, ◌<◌, ◌≤◌, Bool, true, false, cond, leb, List, [], ◌∷◌, ◌++◌, map, length, get_or, take, drop, set, sym, refl, ap, ◌∙◌, add-zero, nat_le, arith}
-use Rattle.std.proofs.lemmas.List.{at_drop_more, at_drop_all, set_at, get_or_at, map_more, drop_more, append_assoc, length-map, length-take-le, length_push, drop-map, drop_at}
-use Rattle.std.proofs.lemmas.Bool.{cond-true, cond-false, le-leb, lt-leb}
+use Rattle.std.proofs.Common.{◌≡◌, ℕ, suc, ◌+◌, ◌<◌, Bool, true, false, cond, leb, List, [], ◌∷◌, ◌++◌, map, length, get_or, take, drop, set, sym, refl, ap, ◌∙◌, add-zero, nat_le, arith}
+use Rattle.std.proofs.lemmas.List.{set_at, get_or_at, map_more, drop_more, append_assoc, length-map, length-take-le, length_push, drop-map, drop_at}
 use Rattle.std.specs.List.{prefix_len}
 use Rattle.results.specs.declared.rows.SegmentRow.{SegmentRow}
 use Rattle.results.specs.declared.rows.LoopRow.{LoopRow}

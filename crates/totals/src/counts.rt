@@ -39,7 +39,11 @@ impl Counts {
             lines: self.lines + line,
             sum: self.sum + ordered,
             group_sets: if row == rows::GS { 0 } else { self.group_sets } + set,
-            set_segments: if row == rows::ST { 0 } else { self.set_segments } + 1,
+            set_segments: if row == rows::ST {
+                0
+            } else {
+                self.set_segments
+            } + 1,
             set_lines: if row == rows::ST { 0 } else { self.set_lines } + line,
             set_sum: if row == rows::ST { 0 } else { self.set_sum } + ordered,
         }

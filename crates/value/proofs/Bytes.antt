@@ -1,11 +1,10 @@
 -- What the tests of single bytes, of each byte and of some byte decide.
-use Rattle.std.proofs.Common.{◌≡◌, ℕ, zero, suc, ◌≤◌, Bool, cond, ◌&&◌, ◌||◌, leb, ◌⊎◌, List, get_or, Decides, sym, refl, ◌∙◌, subst, inl, inr, arith}
+use Rattle.std.proofs.Common.{◌≡◌, ℕ, zero, suc, ◌≤◌, Bool, leb, ◌⊎◌, List, get_or, Decides, sym, refl, ◌∙◌, subst, inl, inr, arith}
 use Rattle.std.proofs.lemmas.List.{get_or_default}
-use Rattle.std.proofs.lemmas.List.Recursion.{same_from_clauses, is_sum_by}
 use Rattle.std.proofs.lemmas.Bool.{leb-true, le-leb}
 use Rattle.std.proofs.lemmas.Bool.Decides.{Decides-eqb, Decides-and, Decides-like, Decides-by_or}
 use Rattle.std.proofs.ByRecursion.{Decides-by_and}
-use Rattle.std.specs.List.{AllByRecursion, list_all, list_any, count_by}
+use Rattle.std.specs.List.{AllByRecursion, list_all, list_any}
 use Rattle.x12.specs.Class.{within, class_of}
 use Rattle.value.specs.Digits.{is_digit, digits}
 use Rattle.value.specs.Texts.{code_byte, text_byte, is_space}

@@ -1,6 +1,5 @@
 -- A walk over the segments of an interchange, one segment a turn.
 use Rattle.std.proofs.Common.{◌≡◌, ℕ, suc, ◌+◌, ◌≤◌, List, [], length, Ok, Err, Result, sym, refl, ap, ◌∙◌, subst, add-one, arith}
-use Rattle.x12.specs.declared.parts.Delimiters.{Delimiters}
 use Rattle.x12.specs.declared.parts.Interchange.{Interchange}
 use Rattle.x12.specs.declared.parts.Segment.{Segment}
 use Rattle.x12.specs.declared.segments.Segments.{Segments}

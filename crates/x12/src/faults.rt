@@ -106,7 +106,10 @@ impl From<ByteFault> for Fault {
             ByteFault::WrongHeader => Fault::new(2, Site::of_name(1, 0)),
             ByteFault::WrongDelimiter => Fault::new(3, Site::of_name(1, 0)),
             ByteFault::WrongByte(at) => Fault::new(4, at),
-            ByteFault::WrongSegment { segment, place } => Fault::new(5, Site::of_name(segment, place)),
+            ByteFault::WrongSegment { segment, place } => Fault::new(
+                5,
+                Site::of_name(segment, place),
+            ),
         }
     }
 }

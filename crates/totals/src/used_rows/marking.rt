@@ -22,7 +22,11 @@ impl UsedRows {
         ensures used { self.new.used ≡ slice_set (cond (row == 1) (replicate 256 false) self.old.used) row true }
         ensures needed { self.new.needed ≡ (if nat_eq row 2 then (G.meaning guide.now).needed second.now else self.old.needed) }
     {
-        let mut used = if row == rows::ST { [false; 256] } else { self.used };
+        let mut used = if row == rows::ST {
+            [false; 256]
+        } else {
+            self.used
+        };
         used[usize::from(row)] = true;
         let needed = if row == rows::BAK {
             guide.needed(second)

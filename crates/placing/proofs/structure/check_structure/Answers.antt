@@ -37,8 +37,8 @@ returns-in_default g c =
     let r = c.place_segments-placed.result in
     sound_bytes m c.args.interchange.now r c.in_default.ensures.0
     (said m c.args.interchange.now c.in_ok-read.read d.0 d.2 d.4
-        (λ I. MatchResult r (λ n. NoneOf (StructureMet m I) × (n ≡ length (segments_of I))) (λ f. First (StructureMet m I) (cause_of_segment f)))
-        c.place_segments-placed.ensures)
+    (λ I. MatchResult r (λ n. NoneOf (StructureMet m I) × (n ≡ length (segments_of I))) (λ f. First (StructureMet m I) (cause_of_segment f)))
+    c.place_segments-placed.ensures)
 
 pub returns-then-from : goal.returns-then-from
 returns-then-from g c =

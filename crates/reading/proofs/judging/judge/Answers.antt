@@ -72,7 +72,7 @@ loop-segment-init g c =
       (
         [],
         subst (λ (n : ℕ). Underway m w.bytes.now 0 0 n c.start-placer.result c.new-tally.result []) (sym s.first)
-        (underway_start m w.bytes.now tt c.requires.sound c.start-placer.result c.new-tally.result (c.start-placer.ensures m) (c.new-tally.ensures m (separator_of w.bytes.now))),
+            (underway_start m w.bytes.now tt c.requires.sound c.start-placer.result c.new-tally.result (c.start-placer.ensures m) (c.new-tally.ensures m (separator_of w.bytes.now))),
       ),
     )
 

@@ -6,7 +6,6 @@ use Rattle.x12.specs.Rank.{First}
 use Rattle.guide.specs.Meaning.{Meaning}
 use Rattle.results.specs.Rows.{loops_in, Fitting}
 use Rattle.verdict.specs.declared.verdicts.Totals.{Totals}
-use Rattle.totals.specs.declared.faults.TotalsFault.{TotalsFault}
 use Rattle.totals.specs.Fails.{cause_of_totals}
 use Rattle.reading.specs.declared.faults.ReadingFault.{ReadingFault}
 use Rattle.reading.specs.declared.judging.Judgment.{Judgment}
@@ -75,5 +74,5 @@ returns g c =
     subst (λ (t : Totals). ReadingIs m I S c.fill.new.segments L c.fill.new.loops (Ok t)) (sym (told m I c.in_ok-judgment.judgment s))
     (promise_accepted m I S c.fill.new.segments L c.fill.new.loops s.regular s.derivation s.derived s.one enough loops_enough
     (c.fill.ensures s.derivation
-        (subst (λ (l : List ℕ). Fitting m l r.delimiters.terminator r.delimiters.separator (length S) (length L) s.derivation) (sym h.0)
-        (record { derived = s.derived; ends = h.4; parts = h.2; room = enough; loop_room = loops_enough }))))
+    (subst (λ (l : List ℕ). Fitting m l r.delimiters.terminator r.delimiters.separator (length S) (length L) s.derivation) (sym h.0)
+    (record { derived = s.derived; ends = h.4; parts = h.2; room = enough; loop_room = loops_enough }))))

@@ -1,4 +1,4 @@
-use Rattle.std.proofs.Common.{◌≡◌, ℕ, refl, Some, None, Option, Result, sym, ap, ◌∙◌, subst}
+use Rattle.std.proofs.Common.{ℕ, refl, Some, None, Option, Result, sym, ap, subst}
 use Rattle.std.specs.Option.{ok_or}
 use Rattle.x12.specs.declared.faults.Fault.{Fault}
 use Rattle.x12.specs.Lists.{and_then}

@@ -1,4 +1,4 @@
-use Rattle.std.proofs.Common.{◌<◌, List, ◌++◌, map, length, get_or, take, set, ap, ◌∙◌, arith}
+use Rattle.std.proofs.Common.{◌<◌, length, get_or, set, ap, ◌∙◌, arith}
 use Rattle.results.specs.declared.rows.LoopRow.{LoopRow}
 use Rattle.results.specs.Steps.{close_by}
 use Rattle.results.proofs.Closing.{closes_more, next_row}

@@ -1,4 +1,4 @@
-use Rattle.std.proofs.Common.{◌+◌, ◌-◌, ◌≤◌, length, drop, nat_le, sym, ◌∙◌, ap, length-drop, arith}
+use Rattle.std.proofs.Common.{◌+◌, drop, nat_le, sym, ◌∙◌, ap, length-drop, arith}
 use Rattle.std.proofs.lemmas.List.Sums.{prefix_len-le-length}
 use Rattle.results.proofs.Closing.{last_by_is}
 use Rattle.results.proofs.close.last_segment.Goals as goal

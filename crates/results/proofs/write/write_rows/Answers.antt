@@ -1,4 +1,4 @@
-use Rattle.std.proofs.Common.{◌≡◌, ℕ, ◌+◌, List, length, Some, None, set, sym, refl, ap, ◌∙◌, subst, arith, length-set}
+use Rattle.std.proofs.Common.{◌≡◌, ℕ, ◌+◌, Some, None, set, sym, refl, ap, ◌∙◌, subst, arith, length-set}
 use Rattle.x12.proofs.Walks.{On, started, turn, ended}
 use Rattle.x12.specs.Segments.{segments_from}
 use Rattle.x12.specs.Views.{plain}

@@ -49,5 +49,5 @@ loop-found-preserved c =
     let x = c.in-Some.found in
     let k = turn z it c.loop-found.invariant.0 x c.next.new.self c.in-Some.ensures.steps in
     let n = nth_next (plain x) (segments_from z.delimiters.terminator (x.place + length x.bytes.now + 1) z.bytes.now) (segments_from z.delimiters.terminator it.at z.bytes.now) c.args.segment it.count c.next.new.self.count
-        k.first.next (k.counted ∙ k.numbered) c.loop-found.invariant.1 (λ e. c.if-found-segment.false (sym k.counted ∙ e)) in
+    k.first.next (k.counted ∙ k.numbered) c.loop-found.invariant.1 (λ e. c.if-found-segment.false (sym k.counted ∙ e)) in
     (k.on, n.0, c.loop-found.invariant.2 ∙ n.1 ∙ (λ i. nth (segments_from z.delimiters.terminator (sym k.behind i) z.bytes.now) (c.args.segment - c.next.new.self.count)))

@@ -1,4 +1,4 @@
-use Rattle.std.proofs.Common.{◌≡◌, ℕ, suc, ◌+◌, List, length, IfSome, sym, ap, ◌∙◌, subst, zero-add, add-one, add-zero, arith}
+use Rattle.std.proofs.Common.{◌≡◌, ℕ, suc, ◌+◌, List, length, IfSome, sym, ap, ◌∙◌, subst, zero-add, add-zero, arith}
 use Rattle.std.proofs.lemmas.Result.{err_from_is_err_and}
 use Rattle.x12.specs.Lists.{each}
 use Rattle.x12.specs.Segments.{Part}
@@ -36,7 +36,7 @@ returns-in_err-check_element g c =
     rw (p.1, p.2)
     (sym old.invariant.2
     ∙ each_stop check (suc old.last) (x.place, x.bytes.now) (parts_from s.segment c.next.new.self.at) (parts_from s.segment old.element-iterator.at) (cause_of_element c.in_err-check_element.field-0.0) k.first
-        (ap (λ (n : ℕ). check n (x.place, x.bytes.now)) (sym k.number) ∙ c.in_err-check_element.ensures))
+    (ap (λ (n : ℕ). check n (x.place, x.bytes.now)) (sym k.number) ∙ c.in_err-check_element.ensures))
 
 pub loop-element-preserved : goal.loop-element-preserved
 loop-element-preserved g c =
@@ -51,7 +51,7 @@ loop-element-preserved g c =
       k.followed,
       ap (λ (m : ℕ). each check m left) n
           ∙ sym (each_on check (suc old.last) (x.place, x.bytes.now) left (parts_from s.segment old.element-iterator.at) c.in_ok-check_element.field-0 k.first
-              (ap (λ (m : ℕ). check m (x.place, x.bytes.now)) (sym k.number) ∙ c.in_ok-check_element.ensures))
+          (ap (λ (m : ℕ). check m (x.place, x.bytes.now)) (sym k.number) ∙ c.in_ok-check_element.ensures))
           ∙ old.invariant.2,
       omega (arith, k.number, ap length k.first, old.invariant.3),
     )

@@ -1,4 +1,4 @@
-use Rattle.std.proofs.Common.{◌&&◌, sym, ◌∙◌, arith, below_none, below_more}
+use Rattle.std.proofs.Common.{sym, arith, below_none, below_more}
 use Rattle.std.proofs.lemmas.Bool.{and_parts, both_ways}
 use Rattle.x12.specs.Lists.{filled}
 use Rattle.x12.specs.Views.{plain}

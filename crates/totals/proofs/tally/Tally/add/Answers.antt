@@ -1,5 +1,4 @@
-use Rattle.std.proofs.Common.{◌≡◌, ℕ, true, false, cond, eqb, List, [], ◌∷◌, ◌++◌, set, replicate, codes, sym, ap, ◌∙◌}
-use Rattle.std.specs.Str.{bytes_eq}
+use Rattle.std.proofs.Common.{◌≡◌, ℕ, true, false, cond, eqb, List, [], ◌∷◌, ◌++◌, set, replicate, ap, ◌∙◌}
 use Rattle.x12.specs.Views.{plain}
 use Rattle.x12.specs.Elements.{element_of_segment}
 use Rattle.placing.specs.Stages.{spot_for}
@@ -8,7 +7,7 @@ use Rattle.elements.specs.Rules.{value}
 use Rattle.seen.specs.ControlNumbers.{numbers_of as control_numbers_of}
 use Rattle.seen.specs.LineNumbers.{numbers_of as line_numbers_of}
 use Rattle.totals.specs.declared.used_rows.UsedRows.{UsedRows}
-use Rattle.totals.specs.Words.{quantity, is_line, ordered, acknowledged}
+use Rattle.totals.specs.Words.{is_line, ordered, acknowledged}
 use Rattle.totals.specs.Amounts.{amount_by, is_ordered, ordered_in, acknowledged_in}
 use Rattle.totals.specs.Steps.{counts_behind, line_after}
 use Rattle.totals.proofs.Added.{line_is, ordered_is, acknowledged_is, asked_is}
