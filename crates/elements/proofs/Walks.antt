@@ -13,14 +13,14 @@ none_first : {A : Type 0} {x : A} {xs : List A} → [] ≡ x ∷ xs → ⊥
 none_first e = let n : 0 ≡ suc _ = ap length e in absurd (omega (arith, n))
 
 -- the elements of a segment, its name first
-all_parts : (s : SegmentValue) → parts_of s.delimiters.separator s.place s.bytes.now ≡ parts_from s (Some 0)
-all_parts s = (λ i. parts_of s.delimiters.separator (sym (add-zero s.place) i) s.bytes.now)
+all_parts : (s : SegmentValue) → parts_of s.separator s.place s.bytes.now ≡ parts_from s (Some 0)
+all_parts s = (λ i. parts_of s.separator (sym (add-zero s.place) i) s.bytes.now)
 
 -- what comes behind the name
 pub behind_name : (s : SegmentValue) (r : Option Element) (it t : Elements) → it.segment ≡ s → it.at ≡ Some 0 → it.number ≡ 0 → ElementComes it r t
-    → (t.segment ≡ s) × IfSome t.at (λ _. t.number ≡ 1) × (present s.delimiters.separator (plain s) ≡ parts_from s t.at)
+    → (t.segment ≡ s) × IfSome t.at (λ _. t.number ≡ 1) × (present s.separator (plain s) ≡ parts_from s t.at)
 behind_name s None it t e a n h =
-    let p = parts_head s.bytes.now s.delimiters.separator s.place in
+    let p = parts_head s.bytes.now s.separator s.place in
     absurd (none_first (sym h ∙ (λ i. parts_from (e i) (a i)) ∙ sym (all_parts s) ∙ p.2))
 behind_name s (Some x) it t e a n h = (
   h.same ∙ e,

@@ -41,7 +41,7 @@ impl<'a, G: Guide> Subject<'a, G> {
 
     // Whether the element is the second of BAK and ends a wrong pair.
     fn has_wrong_pair(&self, element: u8, part: &[u8]) -> bool
-        ensures { result ≡ is_in_wrong_pair (G.meaning self.now.guide.now) self.now.segment.delimiters.separator self.now.row (plain self.now.segment) element part.now }
+        ensures { result ≡ is_in_wrong_pair (G.meaning self.now.guide.now) self.now.segment.separator self.now.row (plain self.now.segment) element part.now }
     {
         element == 2
             && self.row == rows::BAK
@@ -50,7 +50,7 @@ impl<'a, G: Guide> Subject<'a, G> {
 
     // Whether a pair rule asks that the element is filled where `other` is, and that is filled.
     fn is_asked_by(&self, other: u8, element: u8) -> bool
-        ensures { result ≡ (pairs_in (G.meaning self.now.guide.now) self.now.row other element && filled (element_of_segment self.now.segment.delimiters.separator (plain self.now.segment) other).1) }
+        ensures { result ≡ (pairs_in (G.meaning self.now.guide.now) self.now.row other element && filled (element_of_segment self.now.segment.separator (plain self.now.segment) other).1) }
     {
         self.guide.pairs(self.row, other, element)
             && is_filled(self.segment.bytes_of(usize::from(other)))
@@ -58,7 +58,7 @@ impl<'a, G: Guide> Subject<'a, G> {
 
     // Whether a pair rule asks that the element is filled: one whose other element is filled.
     fn is_asked(&self, element: u8) -> bool
-        ensures { result ≡ asks_for (G.meaning self.now.guide.now) self.now.segment.delimiters.separator self.now.row (plain self.now.segment) element }
+        ensures { result ≡ asks_for (G.meaning self.now.guide.now) self.now.segment.separator self.now.row (plain self.now.segment) element }
     {
         if !self.guide.paired(self.row, element) {
             return false;
@@ -73,7 +73,7 @@ impl<'a, G: Guide> Subject<'a, G> {
 
     // The fault of an element that a rule may name, which stands there.
     fn check_named(&self, element: u8, at: Site, part: &[u8]) -> Result<(), ElementFault>
-        ensures { Answers cause_of_element result (first_of at.segment at.element at.place (tests_with (G.meaning self.now.guide.now) self.now.segment.delimiters.separator self.now.row (plain self.now.segment) element part.now)) }
+        ensures { Answers cause_of_element result (first_of at.segment at.element at.place (tests_with (G.meaning self.now.guide.now) self.now.segment.separator self.now.row (plain self.now.segment) element part.now)) }
     {
         let rule = self.rule(element);
         if is_lacking(rule, part) {
@@ -99,9 +99,9 @@ impl<'a, G: Guide> Subject<'a, G> {
 
     // The fault of an element of the segment. Past the limit no rule names it.
     fn check_element(&self, element: Element<'_>) -> Result<(), ElementFault>
-        ensures { Answers cause_of_element result (element_check (G.meaning self.now.guide.now) self.now.segment.delimiters.separator self.now.segment.number self.now.row (plain self.now.segment) element.entry.number (element.entry.place, element.entry.bytes.now)) }
+        ensures { Answers cause_of_element result (element_check (G.meaning self.now.guide.now) self.now.segment.separator self.now.segment.number self.now.row (plain self.now.segment) element.entry.number (element.entry.place, element.entry.bytes.now)) }
     {
-        let at = self.segment.site(&element);
+        let at = self.segment.site(element.number, element.place);
         if element.number <= usize::from(self.limit) {
             return self.check_named(element.number as u8, at, element.bytes);
         }
@@ -114,9 +114,9 @@ impl<'a, G: Guide> Subject<'a, G> {
     // The elements that the segment has, behind its name, one after the other: the number of the last.
     fn check_present(&self) -> Result<usize, ElementFault>
         ensures { MatchResult result
-            (λ n. (each (element_check (G.meaning self.now.guide.now) self.now.segment.delimiters.separator self.now.segment.number self.now.row (plain self.now.segment)) 1 (present self.now.segment.delimiters.separator (plain self.now.segment)) ≡ Ok tt)
-            × (n ≡ length (present self.now.segment.delimiters.separator (plain self.now.segment))))
-            (λ f. each (element_check (G.meaning self.now.guide.now) self.now.segment.delimiters.separator self.now.segment.number self.now.row (plain self.now.segment)) 1 (present self.now.segment.delimiters.separator (plain self.now.segment)) ≡ Err (cause_of_element f)) }
+            (λ n. (each (element_check (G.meaning self.now.guide.now) self.now.segment.separator self.now.segment.number self.now.row (plain self.now.segment)) 1 (present self.now.segment.separator (plain self.now.segment)) ≡ Ok tt)
+            × (n ≡ length (present self.now.segment.separator (plain self.now.segment))))
+            (λ f. each (element_check (G.meaning self.now.guide.now) self.now.segment.separator self.now.segment.number self.now.row (plain self.now.segment)) 1 (present self.now.segment.separator (plain self.now.segment)) ≡ Err (cause_of_element f)) }
     {
         let mut elements = self.segment.elements();
         let _name = elements.next();
@@ -130,7 +130,7 @@ impl<'a, G: Guide> Subject<'a, G> {
 
     // The elements behind number `last` that the segment does not have, up to the limit; they stand at its end.
     fn check_absent(&self, last: usize) -> Result<(), ElementFault>
-        ensures { Answers cause_of_element result (each (element_check (G.meaning self.now.guide.now) self.now.segment.delimiters.separator self.now.segment.number self.now.row (plain self.now.segment)) (suc last) (replicate (self.now.limit - last) (self.now.segment.place + length self.now.segment.bytes.now, []))) }
+        ensures { Answers cause_of_element result (each (element_check (G.meaning self.now.guide.now) self.now.segment.separator self.now.segment.number self.now.row (plain self.now.segment)) (suc last) (replicate (self.now.limit - last) (self.now.segment.place + length self.now.segment.bytes.now, []))) }
     {
         let limit = usize::from(self.limit);
         if last >= limit {
@@ -155,7 +155,7 @@ pub fn check_elements<G: Guide>(
     row: u8,
     segment: &Segment<'_>,
 ) -> Result<(), ElementFault>
-    ensures { Answers cause_of_element result (elements_check (G.meaning guide.now) segment.now.delimiters.separator segment.now.number lacking row (plain segment.now)) }
+    ensures { Answers cause_of_element result (elements_check (G.meaning guide.now) segment.now.separator segment.now.number lacking row (plain segment.now)) }
 {
     if lacking {
         return Err(ElementFault::MissingRow {

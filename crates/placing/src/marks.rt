@@ -8,7 +8,7 @@ use x12::parts::Segment;
 
 // What a segment is known by: its name and its first element.
 pub fn mark_of<'a>(segment: &Segment<'a>) -> Mark<'a>
-    ensures { marked result ≡ mark_in segment.now.delimiters.separator (plain segment.now) }
+    ensures { marked result ≡ mark_in segment.now.separator (plain segment.now) }
 {
     Mark {
         name: segment.bytes_of(0),

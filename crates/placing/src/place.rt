@@ -6,7 +6,6 @@ ghost use Rattle.placing.specs.Placing.{HasPlaced, PlacesNext, TellsWhole};
 use crate::phase::Phase;
 use crate::placer::{Placed, Placer};
 use crate::sets::{SetState, UsedRow};
-use crate::steps::next_step;
 use guide::guide::Guide;
 use guide::rules::Mark;
 
@@ -37,7 +36,7 @@ impl Placer {
     pub fn place<G: Guide>(&mut self, guide: &G, segment: usize, mark: Mark<'_>) -> Option<Placed>
         ensures { PlacesNext (G.meaning guide.now) self.old self.new segment (marked mark.entry) result }
     {
-        let step = next_step(guide, self, segment, mark)?;
+        let step = self.next_step(guide, segment, mark)?;
         *self = step.placer;
         Some(step.placed)
     }

@@ -50,48 +50,50 @@ fn uses_of<G: Guide>(guide: &G, row: u8) -> Uses
     }
 }
 
-// The row that takes a segment with this name and first element, from where the set stands. The rows behind the place are tried first, in
-// order; a row that must still be used stops the search. Then comes the row in use around them, once more, and what lies behind it.
-pub(crate) fn find<G: Guide>(guide: &G, set: &SetState, mark: Mark<'_>) -> Option<Choice>
-    ensures bounded { IfSome result (λ choice. choice.depth ≤ 4) }
-    ensures right { (S : State) → Stands (G.meaning guide.now) set.now.place set.now.used set.now.depth S
-        → MatchOption result (Refuses (Fits (G.meaning guide.now)) S (mark.entry.name.now, mark.entry.first.now))
-        (λ choice. Chosen (G.meaning guide.now) set.now.used set.now.depth (mark.entry.name.now, mark.entry.first.now) S choice) }
-{
-    let mut depth = set.depth;
-    let mut place = set.place;
-    loop {
-        if let Some(row) = row_behind(guide, place, depth) {
-            let next = place + 1;
-            if guide.fits(next, mark) {
-                return Some(Choice {
-                    row: next,
-                    depth,
-                    count: 1,
-                    opens: row.inner > 0,
-                });
-            }
-            if row.least > 0 {
-                return None;
-            }
-            place = next + row.inner;
-        } else {
-            if depth == 0 {
-                return None;
-            }
-            depth -= 1;
-            let used = set.used[depth];
-            let uses = uses_of(guide, used.row);
-            if used.count < uses.greatest && guide.fits(used.row, mark) {
-                return Some(Choice {
-                    row: used.row,
-                    depth,
-                    count: used.count + 1,
-                    opens: uses.opens,
-                });
-            }
-            if used.count < uses.least {
-                return None;
+impl SetState {
+    // The row that takes a segment with this name and first element, from where the set stands. The rows behind the place are tried first, in
+    // order; a row that must still be used stops the search. Then comes the row in use around them, once more, and what lies behind it.
+    pub(crate) fn find<G: Guide>(&self, guide: &G, mark: Mark<'_>) -> Option<Choice>
+        ensures bounded { IfSome result (λ choice. choice.depth ≤ 4) }
+        ensures right { (S : State) → Stands (G.meaning guide.now) self.now.place self.now.used self.now.depth S
+            → MatchOption result (Refuses (Fits (G.meaning guide.now)) S (mark.entry.name.now, mark.entry.first.now))
+            (λ choice. Chosen (G.meaning guide.now) self.now.used self.now.depth (mark.entry.name.now, mark.entry.first.now) S choice) }
+    {
+        let mut depth = self.depth;
+        let mut place = self.place;
+        loop {
+            if let Some(row) = row_behind(guide, place, depth) {
+                let next = place + 1;
+                if guide.fits(next, mark) {
+                    return Some(Choice {
+                        row: next,
+                        depth,
+                        count: 1,
+                        opens: row.inner > 0,
+                    });
+                }
+                if row.least > 0 {
+                    return None;
+                }
+                place = next + row.inner;
+            } else {
+                if depth == 0 {
+                    return None;
+                }
+                depth -= 1;
+                let used = self.used[depth];
+                let uses = uses_of(guide, used.row);
+                if used.count < uses.greatest && guide.fits(used.row, mark) {
+                    return Some(Choice {
+                        row: used.row,
+                        depth,
+                        count: used.count + 1,
+                        opens: uses.opens,
+                    });
+                }
+                if used.count < uses.least {
+                    return None;
+                }
             }
         }
     }

@@ -30,8 +30,8 @@ fn place_segment<G: Guide>(
     segment: &Segment<'_>,
 ) -> Result<Placed, SegmentFault>
     ensures { (o : Option PlacedAt)
-        × PlacesNext (G.meaning guide.now) placer.old placer.new segment.now.number (mark_in segment.now.delimiters.separator (plain segment.now)) o
-        × AnswersWith cause_of_segment result (place_check segment.now.delimiters.separator segment.now.delimiters.component segment.now.number (plain segment.now) o) }
+        × PlacesNext (G.meaning guide.now) placer.old placer.new segment.now.number (mark_in segment.now.separator (plain segment.now)) o
+        × AnswersWith cause_of_segment result (place_check segment.now.separator segment.now.component segment.now.number (plain segment.now) o) }
 {
     let placed = placer.place(guide, segment.number, mark_of(segment));
     segment.check()?;
@@ -49,10 +49,10 @@ fn judge_elements<G: Guide>(
     segment: &Segment<'_>,
 ) -> Result<Placed, ElementFault>
     ensures { (o : Option PlacedAt)
-        × PlacesNext (G.meaning guide.now) placer.old placer.new segment.now.number (mark_in segment.now.delimiters.separator (plain segment.now)) o
-        × ((z : List PlacedSegment) → TallyIs (G.meaning guide.now) segment.now.delimiters.separator z tally.now
-        → AnswersWith cause_of_element result (and_then (place_check segment.now.delimiters.separator segment.now.delimiters.component segment.now.number (plain segment.now) o)
-        (λ placed. and_then (elements_check (G.meaning guide.now) segment.now.delimiters.separator segment.now.number (is_row_lacking (G.meaning guide.now) segment.now.delimiters.separator z (plain segment.now, spot_for placed)) placed.row (plain segment.now))
+        × PlacesNext (G.meaning guide.now) placer.old placer.new segment.now.number (mark_in segment.now.separator (plain segment.now)) o
+        × ((z : List PlacedSegment) → TallyIs (G.meaning guide.now) segment.now.separator z tally.now
+        → AnswersWith cause_of_element result (and_then (place_check segment.now.separator segment.now.component segment.now.number (plain segment.now) o)
+        (λ placed. and_then (elements_check (G.meaning guide.now) segment.now.separator segment.now.number (is_row_lacking (G.meaning guide.now) segment.now.separator z (plain segment.now, spot_for placed)) placed.row (plain segment.now))
         (λ u. Ok placed)))) }
 {
     let placed = place_segment(guide, placer, segment)?;
@@ -68,9 +68,9 @@ pub(crate) fn judge_segment<'a, G: Guide>(
     tally: &mut Tally<'a>,
     segment: &Segment<'a>,
 ) -> Result<Placed, TotalsFault>
-    requires { (z : List PlacedSegment) × Stands (G.meaning guide.now) segment.now.delimiters.separator segment.now.number z placer.old tally.old }
-    ensures { (z : List PlacedSegment) → Stands (G.meaning guide.now) segment.now.delimiters.separator segment.now.number z placer.old tally.old
-        → TurnIs (G.meaning guide.now) segment.now.delimiters.separator segment.now.delimiters.component segment.now.number z (plain segment.now) placer.new tally.new result }
+    requires { (z : List PlacedSegment) × Stands (G.meaning guide.now) segment.now.separator segment.now.number z placer.old tally.old }
+    ensures { (z : List PlacedSegment) → Stands (G.meaning guide.now) segment.now.separator segment.now.number z placer.old tally.old
+        → TurnIs (G.meaning guide.now) segment.now.separator segment.now.component segment.now.number z (plain segment.now) placer.new tally.new result }
 {
     let placed = judge_elements(guide, placer, tally, segment)?;
     tally.check(guide, placed, segment)?;

@@ -18,9 +18,9 @@ pub struct Controls<'a> {
 impl<'a> Controls<'a> {
     // The control numbers behind a segment of this row.
     pub(crate) fn behind(self, row: u8, segment: &Segment<'a>) -> Controls<'a>
-        ensures isa { result.isa13.now ≡ (if nat_eq row 65 then (element_of_segment segment.now.delimiters.separator (plain segment.now) 13).1 else self.entry.isa13.now) }
-        ensures gs { result.gs06.now ≡ (if nat_eq row 66 then (element_of_segment segment.now.delimiters.separator (plain segment.now) 6).1 else self.entry.gs06.now) }
-        ensures st { result.st02.now ≡ (if nat_eq row 1 then (element_of_segment segment.now.delimiters.separator (plain segment.now) 2).1 else self.entry.st02.now) }
+        ensures isa { result.isa13.now ≡ (if nat_eq row 65 then (element_of_segment segment.now.separator (plain segment.now) 13).1 else self.entry.isa13.now) }
+        ensures gs { result.gs06.now ≡ (if nat_eq row 66 then (element_of_segment segment.now.separator (plain segment.now) 6).1 else self.entry.gs06.now) }
+        ensures st { result.st02.now ≡ (if nat_eq row 1 then (element_of_segment segment.now.separator (plain segment.now) 2).1 else self.entry.st02.now) }
     {
         match row {
             rows::ISA => Controls {

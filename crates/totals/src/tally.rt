@@ -98,8 +98,7 @@ impl<'a> Tally<'a> {
         first: &Element<'_>,
         second: &Element<'_>,
     ) -> Result<(), TotalsFault>
-        requires small_counts { SmallCounts self.now.counts }
-        requires numbered { (first.now.number ≡ 1) × (second.now.number ≡ 2) }
+        requires { SmallCounts self.now.counts }
         ensures { Answers cause_of_totals result (totals_by segment.now.number segment.now.place ((G.meaning guide.now).held && is_unlike_close self.now.line placed.outer)
             first.now.place (differs (counted_by self.now.counts placed.row name.now) first.now.bytes.now)
             (bytes_eq name.now (codes "PO1") && came_before first.now.bytes.now (line_numbers_of self.now.line_numbers))
@@ -114,19 +113,19 @@ impl<'a> Tally<'a> {
             });
         }
         if is_wrong_total(self.counts.counted(placed.row, name), first.bytes) {
-            return Err(TotalsFault::WrongTotal(segment.site(first)));
+            return Err(TotalsFault::WrongTotal(segment.site(1, first.place)));
         }
         if is_line(name) && self.line_numbers.has(first.bytes) {
-            return Err(TotalsFault::Repeated(segment.site(first)));
+            return Err(TotalsFault::Repeated(segment.site(1, first.place)));
         }
         if self.controls.is_wrong(placed.row, name, second.bytes) {
-            return Err(TotalsFault::WrongControl(segment.site(second)));
+            return Err(TotalsFault::WrongControl(segment.site(2, second.place)));
         }
         if is_filled(second.bytes) && is_wrong_total(self.counts.summed(name), second.bytes) {
-            return Err(TotalsFault::WrongTotal(segment.site(second)));
+            return Err(TotalsFault::WrongTotal(segment.site(2, second.place)));
         }
         if placed.row == rows::ST && self.set_numbers.has(second.bytes) {
-            return Err(TotalsFault::Repeated(segment.site(second)));
+            return Err(TotalsFault::Repeated(segment.site(2, second.place)));
         }
         Ok(())
     }
@@ -159,8 +158,8 @@ impl<'a> Tally<'a> {
         segment: &Segment<'_>,
     ) -> Result<(), TotalsFault>
         requires { SmallCounts self.now.counts }
-        ensures { (z : List PlacedSegment) → TallyIs (G.meaning guide.now) segment.now.delimiters.separator z self.now
-            → Answers cause_of_totals result (totals_check (G.meaning guide.now) segment.now.delimiters.separator segment.now.number z (plain segment.now, spot_for placed)) }
+        ensures { (z : List PlacedSegment) → TallyIs (G.meaning guide.now) segment.now.separator z self.now
+            → Answers cause_of_totals result (totals_check (G.meaning guide.now) segment.now.separator segment.now.number z (plain segment.now, spot_for placed)) }
     {
         let name = segment.bytes_of(0);
         let first = segment.part(1);
@@ -174,8 +173,8 @@ impl<'a> Tally<'a> {
         requires small_given { IfSome self.old.line (λ l. l.given ≤ 655370000000000) }
         requires few_sets { placed.row ≡ 1 → length (control_numbers_of self.old.set_numbers) < 256 }
         requires few_lines { length (line_numbers_of self.old.line_numbers) < 16384 }
-        ensures { (z : List PlacedSegment) → segment.now.number ≡ suc (length z) → TallyIs (G.meaning guide.now) segment.now.delimiters.separator z self.old
-            → TallyIs (G.meaning guide.now) segment.now.delimiters.separator (z ++ ((plain segment.now, spot_for placed) ∷ [])) self.new }
+        ensures { (z : List PlacedSegment) → segment.now.number ≡ suc (length z) → TallyIs (G.meaning guide.now) segment.now.separator z self.old
+            → TallyIs (G.meaning guide.now) segment.now.separator (z ++ ((plain segment.now, spot_for placed) ∷ [])) self.new }
     {
         let first = segment.bytes_of(1);
         let second = segment.bytes_of(2);

@@ -20,7 +20,8 @@ pub record On (z : Interchange) (s : Segments) : Type 0 where
 pub record Turn (z : Interchange) (s : Segments) (x : Segment) (t : Segments) : Type 0 where
   pub first : FirstFrom z.bytes.now z.delimiters.terminator s.at x.place x.bytes.now x.closed
   pub numbered : x.number ≡ suc s.count
-  pub delimited : x.delimiters ≡ z.delimiters
+  pub separated : x.separator ≡ z.delimiters.separator
+  pub component : x.component ≡ z.delimiters.component
   pub on : On z t
   pub behind : t.at ≡ x.place + length x.bytes.now + 1
   pub counted : t.count ≡ x.number
@@ -54,7 +55,8 @@ module _ (z : Interchange) (s : Segments) (o : On z s) where
       record {
         first = f;
         numbered = n.numbered;
-        delimited = n.delimited ∙ ap (λ y. y.delimiters) o.same;
+        separated = n.separated ∙ ap (λ y. y.delimiters.separator) o.same;
+        component = n.component ∙ ap (λ y. y.delimiters.component) o.same;
         on = record { same = n.same ∙ o.same; inside = omega (arith, n.behind, f.inside) };
         behind = n.behind;
         counted = n.counted;

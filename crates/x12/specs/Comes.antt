@@ -12,7 +12,8 @@ use Rattle.x12.specs.Elements.{PartOf}
 pub record NextSegment (s : Segments) (x : Segment) (t : Segments) : Type 0 where
   pub first : FirstFrom s.interchange.bytes.now s.interchange.delimiters.terminator s.at x.place x.bytes.now x.closed
   pub numbered : x.number ≡ suc s.count
-  pub delimited : x.delimiters ≡ s.interchange.delimiters
+  pub separated : x.separator ≡ s.interchange.delimiters.separator
+  pub component : x.component ≡ s.interchange.delimiters.component
   pub same : t.interchange ≡ s.interchange
   pub behind : t.at ≡ x.place + length x.bytes.now + 1
   pub counted : t.count ≡ x.number
@@ -23,7 +24,7 @@ SegmentComes s r t = MatchOption r (segments_from s.interchange.delimiters.termi
 -- the elements from byte `at` of a segment on, if there are any
 abbrev pub parts_from : Segment → Option ℕ → List Part
 parts_from s None = []
-parts_from s (Some at) = parts_of s.delimiters.separator (s.place + at) (drop at s.bytes.now)
+parts_from s (Some at) = parts_of s.separator (s.place + at) (drop at s.bytes.now)
 
 -- The next element is the first of those left, with the next number, and the others, if there are any, come behind it. None comes where no element is left.
 pub record NextElement (s : Elements) (x : Element) (t : Elements) : Type 0 where

@@ -46,12 +46,12 @@ fn is_name(v: &[u8]) -> bool
 // What an element of the segment is refused for: a bad byte, else a bad name or one in a segment with no terminator.
 fn check_part(segment: &Segment<'_>, element: &Element<'_>) -> Result<(), ByteFault>
     ensures { MatchResult result
-        (λ u. part_check segment.now.delimiters.component segment.now.number segment.now.closed element.now.number (element.now.place, element.now.bytes.now) ≡ Ok u)
-        (λ f. part_check segment.now.delimiters.component segment.now.number segment.now.closed element.now.number (element.now.place, element.now.bytes.now) ≡ Err (cause_of f)) }
+        (λ u. part_check segment.now.component segment.now.number segment.now.closed element.now.number (element.now.place, element.now.bytes.now) ≡ Ok u)
+        (λ f. part_check segment.now.component segment.now.number segment.now.closed element.now.number (element.now.place, element.now.bytes.now) ≡ Err (cause_of f)) }
 {
     let is_isa16 = segment.number == 1 && element.number == 16;
-    if !is_isa16 && has_bad(segment.delimiters.component, element.bytes) {
-        return Err(ByteFault::WrongByte(segment.site(element)));
+    if !is_isa16 && has_bad(segment.component, element.bytes) {
+        return Err(ByteFault::WrongByte(segment.site(element.number, element.place)));
     }
     if element.number == 0 && (!segment.closed || !is_name(element.bytes)) {
         return Err(ByteFault::WrongSegment {
@@ -66,8 +66,8 @@ impl Segment<'_> {
     // The first byte fault of the segment, by element and number: its elements in order.
     pub fn check(&self) -> Result<(), ByteFault>
         ensures { MatchResult result
-            (λ u. segment_check self.now.delimiters.separator self.now.delimiters.component self.now.number (plain self.now) ≡ Ok u)
-            (λ f. segment_check self.now.delimiters.separator self.now.delimiters.component self.now.number (plain self.now) ≡ Err (cause_of f)) }
+            (λ u. segment_check self.now.separator self.now.component self.now.number (plain self.now) ≡ Ok u)
+            (λ f. segment_check self.now.separator self.now.component self.now.number (plain self.now) ≡ Err (cause_of f)) }
     {
         for element in self.elements() {
             check_part(self, &element)?;

@@ -33,7 +33,7 @@ impl<'a> Iterator for Elements<'a> {
             return None;
         };
         let segment = self.segment;
-        let end = find_from(segment.bytes, at, segment.delimiters.separator);
+        let end = find_from(segment.bytes, at, segment.separator);
         let element = Element {
             number: self.number,
             place: segment.place + at,
@@ -63,7 +63,7 @@ impl<'a> Segment<'a> {
 
     // Element `number` with its place. One that is absent has no bytes and stands at the segment's end.
     pub fn part(&self, number: usize) -> Element<'a>
-        ensures { (element_of_segment self.now.delimiters.separator (plain self.now) number ≡ (result.place, result.bytes.now))
+        ensures { (element_of_segment self.now.separator (plain self.now) number ≡ (result.place, result.bytes.now))
             × PartOf self.now.bytes.now self.now.place result.place result.bytes.now × (result.number ≡ number) }
     {
         for element in self.elements() {
@@ -79,20 +79,20 @@ impl<'a> Segment<'a> {
         }
     }
 
-    // Where the element stands.
-    pub fn site(&self, element: &Element<'_>) -> Site
-        ensures { result ≡ record { segment = self.now.number; element = element.now.number; place = element.now.place } }
+    // An element of the segment, by its number and its place.
+    pub fn site(&self, element: usize, place: usize) -> Site
+        ensures { result ≡ record { segment = self.now.number; element = element; place = place } }
     {
         Site {
             segment: self.number,
-            element: element.number,
-            place: element.place,
+            element,
+            place,
         }
     }
 
     // The bytes of element `number`; an absent element has none.
     pub fn bytes_of(&self, number: usize) -> &'a [u8]
-        ensures { result.now ≡ (element_of_segment self.now.delimiters.separator (plain self.now) number).1 }
+        ensures { result.now ≡ (element_of_segment self.now.separator (plain self.now) number).1 }
     {
         self.part(number).bytes
     }
@@ -100,9 +100,9 @@ impl<'a> Segment<'a> {
     // Element `number`; none where it is absent or empty.
     pub fn element(&self, number: usize) -> Option<Element<'a>>
         ensures { MatchOption result
-            ((element_of_segment self.now.delimiters.separator (plain self.now) number).1 ≡ [])
+            ((element_of_segment self.now.separator (plain self.now) number).1 ≡ [])
             (λ e. (e.bytes.now ≢ [])
-            × (element_of_segment self.now.delimiters.separator (plain self.now) number ≡ (e.place, e.bytes.now))
+            × (element_of_segment self.now.separator (plain self.now) number ≡ (e.place, e.bytes.now))
             × PartOf self.now.bytes.now self.now.place e.place e.bytes.now) }
     {
         let element = self.part(number);

@@ -18,14 +18,15 @@ pub struct Interchange<'a> {
 }
 
 // A segment: its number, counted from 1, its place in the interchange, its bytes without the terminator, whether a terminator ends it, and the
-// delimiters of the interchange.
+// separator and the component separator of the interchange.
 #[derive(Clone, Copy)]
 pub struct Segment<'a> {
     pub number: usize,
     pub place: usize,
     pub bytes: &'a [u8],
     pub closed: bool,
-    pub delimiters: Delimiters,
+    pub separator: u8,
+    pub component: u8,
     ghost fits: { place + length bytes.now < 2 ^ 64 },
 }
 

@@ -54,7 +54,8 @@ impl<'a> Iterator for Segments<'a> {
             place,
             bytes: &bytes[place..end],
             closed: end < bytes.len(),
-            delimiters,
+            separator: delimiters.separator,
+            component: delimiters.component,
         })
     }
 }

@@ -1,4 +1,4 @@
-use Rattle.std.proofs.Common.{◌≡◌, suc, ◌+◌, [], ◌∷◌, ◌++◌, length, sym, ap, ◌∙◌, arith, length-append}
+use Rattle.std.proofs.Common.{◌≡◌, ℕ, suc, ◌+◌, [], ◌∷◌, ◌++◌, length, sym, ap, ◌∙◌, arith, length-append}
 use Rattle.x12.specs.Segments.{segments_from}
 use Rattle.x12.specs.Views.{plain}
 use Rattle.x12.proofs.Walks.{turn, ended}
@@ -16,7 +16,7 @@ returns-then-is_none g c = λ et es.
     let s = c.in-Some.segment in
     let k = turn z it c.loop-segment.invariant.0 s c.next.new.self c.in-Some.ensures.steps in
     let n : s.number ≡ suc (length i.0) = k.numbered ∙ ap suc (c.loop-segment.invariant.1 ∙ sym i.2) in
-    let same : marked c.mark_of.result ≡ mark_in z.delimiters.separator (plain s) = c.mark_of.ensures ∙ ap (λ y. mark_in y.separator (plain s)) k.delimited in
+    let same : marked c.mark_of.result ≡ mark_in z.delimiters.separator (plain s) = c.mark_of.ensures ∙ ap (λ (y : ℕ). mark_in y (plain s)) k.separated in
     refused_at m z.bytes.now z.delimiters.terminator z.delimiters.separator et es i.0 (plain s) it.at s.number _ i.1 k.first.next n
     (not_placed m c.loop-segment.placer c.place.new.self z.delimiters.separator s.number (marked c.mark_of.result) c.place.result i.0 (plain s) c.place.ensures i.3 n same c.if-is_none.ensures)
 
@@ -29,7 +29,7 @@ loop-segment-preserved g c =
     let s = c.in-Some.segment in
     let k = turn z it c.loop-segment.invariant.0 s c.next.new.self c.in-Some.ensures.steps in
     let n : s.number ≡ suc (length i.0) = k.numbered ∙ ap suc (c.loop-segment.invariant.1 ∙ sym i.2) in
-    let same : marked c.mark_of.result ≡ mark_in z.delimiters.separator (plain s) = c.mark_of.ensures ∙ ap (λ y. mark_in y.separator (plain s)) k.delimited in (
+    let same : marked c.mark_of.result ≡ mark_in z.delimiters.separator (plain s) = c.mark_of.ensures ∙ ap (λ (y : ℕ). mark_in y (plain s)) k.separated in (
       k.on,
       k.counted,
       (

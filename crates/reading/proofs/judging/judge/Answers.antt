@@ -83,7 +83,7 @@ judge_segment-requires g c =
     let l = c.loop-segment in
     let s = c.in-Some.segment in
     let i = c.loop-segment.invariant.2 in
-    let es = ap (λ y. y.separator) (turn w l.segment-iterator l.invariant.0 s c.next.new.self c.in-Some.ensures.steps).delimited ∙ c.requires.delimited.0 in
+    let es = (turn w l.segment-iterator l.invariant.0 s c.next.new.self c.in-Some.ensures.steps).separated ∙ c.requires.delimited.0 in
     let n = number_is m w c.requires.sound c.requires.delimited.1.1 l.count l.loops l.segment-iterator l.placer l.tally i.0 l.invariant.0 l.invariant.1 i.1 s c.next.new.self c.in-Some.ensures.steps in
     let st = stands_so m w c.requires.sound c.requires.delimited.1.1 l.count l.loops l.segment-iterator l.placer l.tally i.0 l.invariant.0 l.invariant.1 i.1 s c.next.new.self c.in-Some.ensures.steps in
     (i.0, subst (λ (q : ℕ × ℕ). Stands m q.0 q.1 i.0 l.placer l.tally) (λ j. (sym es j, sym n j)) st)
@@ -96,14 +96,14 @@ returns-in_err-placed g c =
     let s = c.in-Some.segment in
     let i = c.loop-segment.invariant.2 in
     let k = turn w l.segment-iterator l.invariant.0 s c.next.new.self c.in-Some.ensures.steps in
-    let es = ap (λ y. y.separator) k.delimited ∙ c.requires.delimited.0 in
-    let ec = ap (λ y. y.component) k.delimited ∙ c.requires.delimited.1.0 in
+    let es = k.separated ∙ c.requires.delimited.0 in
+    let ec = k.component ∙ c.requires.delimited.1.0 in
     let n = number_is m w c.requires.sound c.requires.delimited.1.1 l.count l.loops l.segment-iterator l.placer l.tally i.0 l.invariant.0 l.invariant.1 i.1 s c.next.new.self c.in-Some.ensures.steps in
     let next = next_is m w c.requires.sound c.requires.delimited.1.1 l.count l.loops l.segment-iterator l.placer l.tally i.0 l.invariant.0 l.invariant.1 i.1 s c.next.new.self c.in-Some.ensures.steps in
     let st = stands_so m w c.requires.sound c.requires.delimited.1.1 l.count l.loops l.segment-iterator l.placer l.tally i.0 l.invariant.0 l.invariant.1 i.1 s c.next.new.self c.in-Some.ensures.steps in
     let p = err_from_is_err_and c.from_residual.result c.from_residual.ensures.1 in
     let fault = c.in_err-placed.field-0.0 in
-    let t = turn_by m s.delimiters.separator (separator_of w.bytes.now) s.delimiters.component (component_of w.bytes.now) s.number (l.count + 1) i.0 (plain s) c.judge_segment.new.placer c.judge_segment.new.tally (Err fault) es ec n
+    let t = turn_by m s.separator (separator_of w.bytes.now) s.component (component_of w.bytes.now) s.number (l.count + 1) i.0 (plain s) c.judge_segment.new.placer c.judge_segment.new.tally (Err fault) es ec n
     (c.in_err-placed.ensures i.0 (subst (λ (q : ℕ × ℕ). Stands m q.0 q.1 i.0 l.placer l.tally) (λ j. (sym es j, sym n j)) st)) in
     stopped m w.bytes.now c.from_residual.result p.0 p.1
     (subst (λ (e : TotalsFault). First (Met m w.bytes.now) (cause_of_totals e)) (sym p.2)
@@ -128,11 +128,11 @@ loop-segment-preserved g c =
     let i = c.loop-segment.invariant.2 in
     let placed = c.in_ok-placed.placed in
     let k = turn w l.segment-iterator l.invariant.0 s c.next.new.self c.in-Some.ensures.steps in
-    let es = ap (λ y. y.separator) k.delimited ∙ c.requires.delimited.0 in
-    let ec = ap (λ y. y.component) k.delimited ∙ c.requires.delimited.1.0 in
+    let es = k.separated ∙ c.requires.delimited.0 in
+    let ec = k.component ∙ c.requires.delimited.1.0 in
     let n = number_is m w c.requires.sound c.requires.delimited.1.1 l.count l.loops l.segment-iterator l.placer l.tally i.0 l.invariant.0 l.invariant.1 i.1 s c.next.new.self c.in-Some.ensures.steps in
     let st = stands_so m w c.requires.sound c.requires.delimited.1.1 l.count l.loops l.segment-iterator l.placer l.tally i.0 l.invariant.0 l.invariant.1 i.1 s c.next.new.self c.in-Some.ensures.steps in
-    let t = turn_by m s.delimiters.separator (separator_of w.bytes.now) s.delimiters.component (component_of w.bytes.now) s.number (l.count + 1) i.0 (plain s) c.judge_segment.new.placer c.judge_segment.new.tally (Ok placed) es ec n
+    let t = turn_by m s.separator (separator_of w.bytes.now) s.component (component_of w.bytes.now) s.number (l.count + 1) i.0 (plain s) c.judge_segment.new.placer c.judge_segment.new.tally (Ok placed) es ec n
     (c.in_ok-placed.ensures i.0 (subst (λ (q : ℕ × ℕ). Stands m q.0 q.1 i.0 l.placer l.tally) (λ j. (sym es j, sym n j)) st)) in (
       k.on,
       k.counted,
@@ -153,11 +153,11 @@ loop-segment-preserved-then-placed-count g c =
     let i = c.loop-segment.invariant.2 in
     let placed = c.in_ok-placed.placed in
     let k = turn w l.segment-iterator l.invariant.0 s c.next.new.self c.in-Some.ensures.steps in
-    let es = ap (λ y. y.separator) k.delimited ∙ c.requires.delimited.0 in
-    let ec = ap (λ y. y.component) k.delimited ∙ c.requires.delimited.1.0 in
+    let es = k.separated ∙ c.requires.delimited.0 in
+    let ec = k.component ∙ c.requires.delimited.1.0 in
     let n = number_is m w c.requires.sound c.requires.delimited.1.1 l.count l.loops l.segment-iterator l.placer l.tally i.0 l.invariant.0 l.invariant.1 i.1 s c.next.new.self c.in-Some.ensures.steps in
     let st = stands_so m w c.requires.sound c.requires.delimited.1.1 l.count l.loops l.segment-iterator l.placer l.tally i.0 l.invariant.0 l.invariant.1 i.1 s c.next.new.self c.in-Some.ensures.steps in
-    let t = turn_by m s.delimiters.separator (separator_of w.bytes.now) s.delimiters.component (component_of w.bytes.now) s.number (l.count + 1) i.0 (plain s) c.judge_segment.new.placer c.judge_segment.new.tally (Ok placed) es ec n
+    let t = turn_by m s.separator (separator_of w.bytes.now) s.component (component_of w.bytes.now) s.number (l.count + 1) i.0 (plain s) c.judge_segment.new.placer c.judge_segment.new.tally (Ok placed) es ec n
     (c.in_ok-placed.ensures i.0 (subst (λ (q : ℕ × ℕ). Stands m q.0 q.1 i.0 l.placer l.tally) (λ j. (sym es j, sym n j)) st)) in (
       k.on,
       k.counted,

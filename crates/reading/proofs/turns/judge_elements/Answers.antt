@@ -26,7 +26,7 @@ stopped cause r f check e h = subst (λ (x : Result Placed ElementFault). Answer
 pub returns-in_err-placed : goal.returns-in_err-placed
 returns-in_err-placed g c =
     let m = g.G.Guide.meaning c.args.guide.now in
-    let x = c.args.segment.now.delimiters.separator in
+    let x = c.args.segment.now.separator in
     let s : Segment = plain c.args.segment.now in
     let t = c.in_err-placed.ensures in
     let p = err_from_is_err_and c.from_residual.result c.from_residual.ensures.1 in (
@@ -39,7 +39,7 @@ returns-in_err-placed g c =
 pub returns-in_err-check_elements : goal.returns-in_err-check_elements
 returns-in_err-check_elements g c =
     let m = g.G.Guide.meaning c.args.guide.now in
-    let x = c.args.segment.now.delimiters.separator in
+    let x = c.args.segment.now.separator in
     let s : Segment = plain c.args.segment.now in
     let placed = c.in_ok-placed.placed in
     let t = c.in_ok-placed.ensures in
@@ -56,7 +56,7 @@ returns-in_err-check_elements g c =
 pub returns : goal.returns
 returns g c =
     let m = g.G.Guide.meaning c.args.guide.now in
-    let x = c.args.segment.now.delimiters.separator in
+    let x = c.args.segment.now.separator in
     let s : Segment = plain c.args.segment.now in
     let placed = c.in_ok-placed.placed in
     let t = c.in_ok-placed.ensures in (

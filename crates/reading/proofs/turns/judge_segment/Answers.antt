@@ -27,8 +27,8 @@ stopped m x k₀ k z s p t r f o e h q = subst (λ (y : Result Placed TotalsFaul
 pub returns-in_err-placed : goal.returns-in_err-placed
 returns-in_err-placed g c = λ z st.
     let m = g.G.Guide.meaning c.args.guide.now in
-    let x = c.args.segment.now.delimiters.separator in
-    let k₀ = c.args.segment.now.delimiters.component in
+    let x = c.args.segment.now.separator in
+    let k₀ = c.args.segment.now.component in
     let k = c.args.segment.now.number in
     let s : Segment = plain c.args.segment.now in
     let t = c.in_err-placed.ensures in
@@ -41,13 +41,13 @@ pub check-requires : goal.check-requires
 check-requires g c =
     let m = g.G.Guide.meaning c.args.guide.now in
     let st = c.requires.1 in
-    small_counts_lem m c.args.segment.now.delimiters.separator c.requires.0 c.args.tally.now st.counted st.few
+    small_counts_lem m c.args.segment.now.separator c.requires.0 c.args.tally.now st.counted st.few
 
 pub returns-in_err-check : goal.returns-in_err-check
 returns-in_err-check g c = λ z st.
     let m = g.G.Guide.meaning c.args.guide.now in
-    let x = c.args.segment.now.delimiters.separator in
-    let k₀ = c.args.segment.now.delimiters.component in
+    let x = c.args.segment.now.separator in
+    let k₀ = c.args.segment.now.component in
     let k = c.args.segment.now.number in
     let s : Segment = plain c.args.segment.now in
     let placed = c.in_ok-placed.placed in
@@ -61,13 +61,13 @@ returns-in_err-check g c = λ z st.
 pub add-requires : goal.add-requires
 add-requires g c =
     let m = g.G.Guide.meaning c.args.guide.now in
-    let x = c.args.segment.now.delimiters.separator in
+    let x = c.args.segment.now.separator in
     let z = c.requires.0 in
     let st = c.requires.1 in
     let s : Segment = plain c.args.segment.now in
     let placed = c.in_ok-placed.placed in
     let t = c.in_ok-placed.ensures in
-    let low = lower_passed m x c.args.segment.now.delimiters.component c.args.segment.now.number z s t.0 placed (t.2 z st.counted) in
+    let low = lower_passed m x c.args.segment.now.component c.args.segment.now.number z s t.0 placed (t.2 z st.counted) in
     let h : Placement m x z s (Some (spot_for placed)) = subst (λ (o : Option Placed). Placement m x z s (over spot_for o)) low.1 (placement m x c.args.segment.now.number z s c.args.placer.now _ st.placed st.number t.0 t.1) in record {
       small_counts = small_counts_lem m x z c.args.tally.now st.counted st.few;
       small_given = small_given m x z c.args.tally.now st.counted st.few;
@@ -78,8 +78,8 @@ add-requires g c =
 pub returns : goal.returns
 returns g c = λ z st.
     let m = g.G.Guide.meaning c.args.guide.now in
-    let x = c.args.segment.now.delimiters.separator in
-    let k₀ = c.args.segment.now.delimiters.component in
+    let x = c.args.segment.now.separator in
+    let k₀ = c.args.segment.now.component in
     let k = c.args.segment.now.number in
     let s : Segment = plain c.args.segment.now in
     let placed = c.in_ok-placed.placed in

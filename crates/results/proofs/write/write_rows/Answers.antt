@@ -39,7 +39,7 @@ returns-in_default-clause-begun g c = λ z fit.
     let s = c.in-Some.segment in
     let k = turn x c.loop-segment.segment-iterator c.loop-segment.invariant.0 s c.next.new.self c.in-Some.ensures.steps in
     let n : s.number ≡ c.loop-segment.counts.segments + 1 = omega (arith, k.numbered, c.loop-segment.invariant.1) in
-    let same : marked c.mark_of.result ≡ mark_in x.delimiters.separator (plain s) = c.mark_of.ensures ∙ ap (λ y. mark_in y.separator (plain s)) k.delimited in
+    let same : marked c.mark_of.result ≡ mark_in x.delimiters.separator (plain s) = c.mark_of.ensures ∙ ap (λ (y : ℕ). mark_in y (plain s)) k.separated in
     absurd (never_refused fit (c.loop-segment.invariant.4 z fit) k.first.next same
     (subst (λ (j : ℕ). PlacesNext m c.loop-segment.placer c.place.new.self j (marked c.mark_of.result) None) n c.in_default.ensures))
 
@@ -52,7 +52,7 @@ loop-segment-preserved g c =
     let counts = c.loop-segment.counts in
     let k = turn x old.segment-iterator old.invariant.0 s c.next.new.self c.in-Some.ensures.steps in
     let n : s.number ≡ counts.segments + 1 = omega (arith, k.numbered, old.invariant.1) in
-    let same : marked c.mark_of.result ≡ mark_in x.delimiters.separator (plain s) = c.mark_of.ensures ∙ ap (λ y. mark_in y.separator (plain s)) k.delimited in
+    let same : marked c.mark_of.result ≡ mark_in x.delimiters.separator (plain s) = c.mark_of.ensures ∙ ap (λ (y : ℕ). mark_in y (plain s)) k.separated in
     let few = opened_within old.loops c.open_loop.new.loops counts.loops s.number c.open_loop.result c.in-Some-place.placed c.open_loop.ensures old.invariant.3 in
     let places = subst (λ (j : ℕ). PlacesNext m old.placer c.place.new.self j (marked c.mark_of.result) (Some c.in-Some-place.placed)) n c.in-Some-place.ensures in
     let opens = subst (λ (j : ℕ). OpensNext old.loops counts.loops j c.in-Some-place.placed c.open_loop.new.loops c.open_loop.result) n c.open_loop.ensures in (

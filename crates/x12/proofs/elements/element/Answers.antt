@@ -36,8 +36,8 @@ returns-then-found-segment c =
     let one : c.args.segment - it.count ≡ 1 = omega (arith, k.numbered, c.if-found-segment.true) in
     let p : z.bytes.now ≡ c.args.interchange.now = ap (λ y. y.bytes.now) q ∙ h.0 in
     let f = subst (λ l. FirstFrom l z.delimiters.terminator it.at x.place x.bytes.now x.closed) p k.first in
-    handed_out c.args.interchange.now c.args.segment c.args.number x.delimiters.separator (plain x) (check_sound c.args.interchange.now tt h.1)
-    (ap (λ y. y.separator) (k.delimited ∙ ap (λ y. y.delimiters) q) ∙ h.2)
+    handed_out c.args.interchange.now c.args.segment c.args.number x.separator (plain x) (check_sound c.args.interchange.now tt h.1)
+    (k.separated ∙ ap (λ y. y.delimiters.separator) q ∙ h.2)
     (c.loop-found.invariant.2 ∙ nth_first (plain x) (segments_from z.delimiters.terminator (x.place + length x.bytes.now + 1) z.bytes.now) (segments_from z.delimiters.terminator it.at z.bytes.now) (c.args.segment - it.count) k.first.next one)
     f.inside f.part
     (λ (e : Element). e.place) (λ (e : Element). e.bytes.now) c.element.result c.element.ensures

@@ -38,7 +38,7 @@ returns-in_err-check c =
     (body_refused c.args.interchange.now z.delimiters.separator z.delimiters.component (ap (λ y. y.delimiters.separator) q ∙ h.2) (ap (λ y. y.delimiters.component) q ∙ h.3) tt h.1 f
     (sym c.loop-segment.invariant.3
     ∙ stops z it c.loop-segment.invariant.0 (segment_check z.delimiters.separator z.delimiters.component) x c.next.new.self c.in-Some.ensures.steps f
-    ((λ i. segment_check (sym k.delimited i).separator (sym k.delimited i).component (sym k.numbered i) (plain x)) ∙ c.in_err-check.ensures)))
+    ((λ i. segment_check (sym k.separated i) (sym k.component i) (sym k.numbered i) (plain x)) ∙ c.in_err-check.ensures)))
 
 pub returns : goal.returns
 returns c =

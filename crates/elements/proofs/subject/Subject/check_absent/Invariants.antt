@@ -10,5 +10,5 @@ abbrev pub invariant-loop-number : goal.invariant-loop-number
 invariant-loop-number g l =
     let s = l.self in
     let none : Part = (s.segment.place + length s.segment.bytes.now, []) in
-    let check = element_check (g.G.Guide.meaning s.guide.now) s.segment.delimiters.separator s.segment.number s.row (plain s.segment) in
+    let check = element_check (g.G.Guide.meaning s.guide.now) s.segment.separator s.segment.number s.row (plain s.segment) in
     each check l.number (replicate (suc s.limit - l.number) none) ≡ each check (suc l.last) (replicate (s.limit - l.last) none)

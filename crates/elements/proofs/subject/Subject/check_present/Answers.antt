@@ -17,7 +17,7 @@ loop-element-init g c =
     let h = behind_name s.segment c.next-name.result c.elements-elements.result c.next-name.new.self e.0 e.1 e.2 c.next-name.ensures.steps in
     let it = c.into_iter-element-iterator.result in
     let q = c.into_iter-element-iterator.ensures.into_iter_gives in
-    let check = element_check (g.G.Guide.meaning s.guide.now) s.segment.delimiters.separator s.segment.number s.row (plain s.segment) in
+    let check = element_check (g.G.Guide.meaning s.guide.now) s.segment.separator s.segment.number s.row (plain s.segment) in
     let left = h.2 ∙ (λ i. parts_from s.segment (sym q i).at) in (
       ap (λ y. y.segment) q ∙ h.0,
       subst (λ y. IfSome y.at (λ _. y.number ≡ 1)) (sym q) h.1,
@@ -30,7 +30,7 @@ returns-in_err-check_element g c =
     let s = c.args.self.now in
     let old = c.loop-element in
     let x = c.in-Some.element in
-    let check = element_check (g.G.Guide.meaning s.guide.now) s.segment.delimiters.separator s.segment.number s.row (plain s.segment) in
+    let check = element_check (g.G.Guide.meaning s.guide.now) s.segment.separator s.segment.number s.row (plain s.segment) in
     let k = turn s.segment old.element-iterator old.last x c.next.new.self old.invariant.0 old.invariant.1 c.in-Some.ensures.steps in
     let p = err_from_is_err_and c.from_residual.result c.from_residual.ensures.1 in
     rw (p.1, p.2)
@@ -43,7 +43,7 @@ loop-element-preserved g c =
     let s = c.args.self.now in
     let old = c.loop-element in
     let x = c.in-Some.element in
-    let check = element_check (g.G.Guide.meaning s.guide.now) s.segment.delimiters.separator s.segment.number s.row (plain s.segment) in
+    let check = element_check (g.G.Guide.meaning s.guide.now) s.segment.separator s.segment.number s.row (plain s.segment) in
     let k = turn s.segment old.element-iterator old.last x c.next.new.self old.invariant.0 old.invariant.1 c.in-Some.ensures.steps in
     let left = parts_from s.segment c.next.new.self.at in
     let n : suc x.number ≡ suc old.last + 1 = omega (arith, k.number) in (
@@ -60,7 +60,7 @@ pub returns : goal.returns
 returns g c =
     let s = c.args.self.now in
     let old = c.loop-element in
-    let check = element_check (g.G.Guide.meaning s.guide.now) s.segment.delimiters.separator s.segment.number s.row (plain s.segment) in
+    let check = element_check (g.G.Guide.meaning s.guide.now) s.segment.separator s.segment.number s.row (plain s.segment) in
     let none = (λ i. parts_from (sym old.invariant.0 i) old.element-iterator.at) ∙ c.in-None.ensures.steps in (
       sym old.invariant.2 ∙ ap (each check (suc old.last)) none,
       sym (add-zero old.last) ∙ ap (λ (l : List Part). old.last + length l) (sym none) ∙ old.invariant.3,

@@ -8,4 +8,4 @@ use Rattle.elements.proofs.subject.Subject.is_asked.Given as goal
 -- none of the elements so far asks for this one
 abbrev pub invariant-loop-other : goal.invariant-loop-other
 invariant-loop-other g l =
-    (a : ℕ) → a < l.other → (pairs_in (g.G.Guide.meaning l.self.guide.now) l.self.row a l.element && filled (element_of_segment l.self.segment.delimiters.separator (plain l.self.segment) a).1) ≡ true → ⊥
+    (a : ℕ) → a < l.other → (pairs_in (g.G.Guide.meaning l.self.guide.now) l.self.row a l.element && filled (element_of_segment l.self.segment.separator (plain l.self.segment) a).1) ≡ true → ⊥

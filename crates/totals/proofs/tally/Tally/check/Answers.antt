@@ -20,7 +20,7 @@ pub returns : goal.returns
 returns g c = λ z is.
     let m = g.G.Guide.meaning c.args.guide.now in
     let seg = c.args.segment.now in
-    let x = seg.delimiters.separator in
+    let x = seg.separator in
     let t = c.args.self.now in
     let s = plain seg in
     let p : PlacedSegment = (s, spot_for c.args.placed) in

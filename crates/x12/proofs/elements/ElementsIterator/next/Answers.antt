@@ -10,7 +10,7 @@ returns-then-end-segment-clause-steps c =
     let xs = s.segment.bytes.now in
     let h = c.find_from-end.ensures in
     record {
-      first = ap (parts_from s.segment) c.in-Some.is ∙ last_at xs s.segment.delimiters.separator s.segment.place c.in-Some.at c.find_from-end.result h (omega arith);
+      first = ap (parts_from s.segment) c.in-Some.is ∙ last_at xs s.segment.separator s.segment.place c.in-Some.at c.find_from-end.result h (omega arith);
       part = part_of xs s.segment.place c.in-Some.at c.find_from-end.result h.low h.within;
       numbered = refl;
       same = refl;
@@ -25,7 +25,7 @@ returns-clause-steps c =
     let h = c.find_from-end.ensures in
     let lt : c.find_from-end.result < length xs = omega (arith, h.within) in
     record {
-      first = ap (parts_from s.segment) c.in-Some.is ∙ found_at xs s.segment.delimiters.separator s.segment.place c.in-Some.at c.find_from-end.result h lt;
+      first = ap (parts_from s.segment) c.in-Some.is ∙ found_at xs s.segment.separator s.segment.place c.in-Some.at c.find_from-end.result h lt;
       part = part_of xs s.segment.place c.in-Some.at c.find_from-end.result h.low h.within;
       numbered = refl;
       same = refl;

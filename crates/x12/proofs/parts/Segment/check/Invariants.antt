@@ -8,5 +8,5 @@ use Rattle.x12.proofs.parts.Segment.check.Given as goal
 abbrev pub invariant-loop-element : goal.invariant-loop-element
 invariant-loop-element l =
     (l.element-iterator.segment ≡ l.self)
-    × (each (part_check l.self.delimiters.component l.self.number l.self.closed) l.element-iterator.number (parts_from l.self l.element-iterator.at)
-    ≡ segment_check l.self.delimiters.separator l.self.delimiters.component l.self.number (plain l.self))
+    × (each (part_check l.self.component l.self.number l.self.closed) l.element-iterator.number (parts_from l.self l.element-iterator.at)
+    ≡ segment_check l.self.separator l.self.component l.self.number (plain l.self))

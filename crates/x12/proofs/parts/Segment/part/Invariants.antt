@@ -7,5 +7,5 @@ use Rattle.x12.proofs.parts.Segment.part.Given as goal
 abbrev pub invariant-loop-element : goal.invariant-loop-element
 invariant-loop-element l =
     (l.element-iterator.segment ≡ l.self) × (l.element-iterator.number ≤ l.number)
-    × (element_of_segment l.self.delimiters.separator (plain l.self) l.number
+    × (element_of_segment l.self.separator (plain l.self) l.number
     ≡ part_at (end_of (plain l.self)) (parts_from l.self l.element-iterator.at) (l.number - l.element-iterator.number))

@@ -16,7 +16,8 @@ returns-clause-steps c =
     record {
       first = f;
       numbered = add-one s.count;
-      delimited = refl;
+      separated = refl;
+      component = refl;
       same = refl;
       behind = omega (arith, f.inside);
       counted = refl;

@@ -2,8 +2,8 @@ use Rattle.std.proofs.Common.{◌≡◌, ℕ, suc, ◌-◌, ◌<◌, ◌≤◌, 
 use Rattle.grammar.proofs.Search.{NoRowOfDepth}
 use Rattle.placing.specs.Model.{table_of, blank}
 use Rattle.placing.proofs.Finds.{Search, opens_is, depth_is, takes, stops_at_row, skips, takes_again, leaves, stops_at_used, ends}
-use Rattle.placing.proofs.search.find.Goals as goal
-use Rattle.placing.proofs.search.find.Goals.{else-used-uses-via-then-used-uses+else-fits-2, else-used-uses-via-else-used-uses}
+use Rattle.placing.proofs.sets.SetState.find.Goals as goal
+use Rattle.placing.proofs.sets.SetState.find.Goals.{else-used-uses-via-then-used-uses+else-fits-2, else-used-uses-via-else-used-uses}
 
 pub returns-then-fits : goal.returns-then-fits
 returns-then-fits g c =
@@ -13,9 +13,9 @@ returns-then-fits g c =
       right = λ S t. (
         c.loop-row.invariant.0,
         sym c.if-fits.ensures,
-        opens_is m c.args.set.now.used (c.args.mark.name.now, c.args.mark.first.now) S c.loop-row.place c.loop-row.depth c.in-Some.row c.in-Some.ensures,
-        depth_is m c.args.set.now.used (c.args.mark.name.now, c.args.mark.first.now) S c.loop-row.place c.loop-row.depth c.in-Some.row c.in-Some.ensures,
-        takes m c.args.set.now.used (c.args.mark.name.now, c.args.mark.first.now) S c.loop-row.place c.loop-row.depth c.in-Some.row c.in-Some.ensures (g.G.Guide.lawful c.args.guide.now) (c.loop-row.invariant.1 S t),
+        opens_is m c.args.self.now.used (c.args.mark.name.now, c.args.mark.first.now) S c.loop-row.place c.loop-row.depth c.in-Some.row c.in-Some.ensures,
+        depth_is m c.args.self.now.used (c.args.mark.name.now, c.args.mark.first.now) S c.loop-row.place c.loop-row.depth c.in-Some.row c.in-Some.ensures,
+        takes m c.args.self.now.used (c.args.mark.name.now, c.args.mark.first.now) S c.loop-row.place c.loop-row.depth c.in-Some.row c.in-Some.ensures (g.G.Guide.lawful c.args.guide.now) (c.loop-row.invariant.1 S t),
       );
     }
 
@@ -24,14 +24,14 @@ returns-then-row-gt0 g c = record {
   bounded = tt;
   right = λ S t.
       let m = g.G.Guide.meaning c.args.guide.now in
-      stops_at_row m c.args.set.now.used (c.args.mark.name.now, c.args.mark.first.now) S c.loop-row.place c.loop-row.depth c.in-Some.row c.in-Some.ensures (sym c.if-fits.ensures) c.if-row-gt0.true (c.loop-row.invariant.1 S t);
+      stops_at_row m c.args.self.now.used (c.args.mark.name.now, c.args.mark.first.now) S c.loop-row.place c.loop-row.depth c.in-Some.row c.in-Some.ensures (sym c.if-fits.ensures) c.if-row-gt0.true (c.loop-row.invariant.1 S t);
 }
 
 pub loop-row-preserved-in-Some : goal.loop-row-preserved-in-Some
 loop-row-preserved-in-Some g c =
     let m = g.G.Guide.meaning c.args.guide.now in (
       c.loop-row.invariant.0,
-      λ S t. skips m c.args.set.now.used (c.args.mark.name.now, c.args.mark.first.now) S c.loop-row.place c.loop-row.depth c.in-Some.row c.in-Some.ensures (sym c.if-fits.ensures) (omega arith) (c.loop-row.invariant.1 S t),
+      λ S t. skips m c.args.self.now.used (c.args.mark.name.now, c.args.mark.first.now) S c.loop-row.place c.loop-row.depth c.in-Some.row c.in-Some.ensures (sym c.if-fits.ensures) (omega arith) (c.loop-row.invariant.1 S t),
     )
 
 pub returns-then-depth-eq0 : goal.returns-then-depth-eq0
@@ -40,9 +40,9 @@ returns-then-depth-eq0 g c = record {
   right = λ S t.
       let m = g.G.Guide.meaning c.args.guide.now in
       let z : c.loop-row.depth ≡ 0 = c.if-depth-eq0.true in
-      ends m c.args.set.now.used (c.args.mark.name.now, c.args.mark.first.now) S c.loop-row.place
+      ends m c.args.self.now.used (c.args.mark.name.now, c.args.mark.first.now) S c.loop-row.place
       (subst (λ (d : ℕ). NoRowOfDepth d (drop c.loop-row.place (table_of m))) z c.in_default.ensures)
-      (subst (Search m c.args.set.now.used (c.args.mark.name.now, c.args.mark.first.now) S c.loop-row.place) z (c.loop-row.invariant.1 S t));
+      (subst (Search m c.args.self.now.used (c.args.mark.name.now, c.args.mark.first.now) S c.loop-row.place) z (c.loop-row.invariant.1 S t));
 }
 
 pub returns-then-fits-2 : goal.returns-then-fits-2
@@ -52,7 +52,7 @@ returns-then-fits-2 g c =
     let p : d ≡ suc (d - 1) = omega arith in
     let u = c.uses_of-uses.ensures in
     let inside = c.loop-row.invariant.0 in
-    let few = c.args.set.now.few in
+    let few = c.args.self.now.few in
     record {
       bounded = omega arith;
       right = λ S t. (
@@ -60,10 +60,10 @@ returns-then-fits-2 g c =
         sym c.if-fits-2.ensures,
         u.2,
         t.1 (d - 1) (omega arith),
-        takes_again m c.args.set.now.used (c.args.mark.name.now, c.args.mark.first.now) S c.loop-row.place (d - 1)
+        takes_again m c.args.self.now.used (c.args.mark.name.now, c.args.mark.first.now) S c.loop-row.place (d - 1)
             (subst (λ (k : ℕ). NoRowOfDepth k (drop c.loop-row.place (table_of m))) p c.in_default.ensures)
-            (subst (λ (k : ℕ). (get_or c.args.set.now.used (d - 1) blank).count < k) u.1 c.if-used-uses.true)
-            (subst (Search m c.args.set.now.used (c.args.mark.name.now, c.args.mark.first.now) S c.loop-row.place) p (c.loop-row.invariant.1 S t)),
+            (subst (λ (k : ℕ). (get_or c.args.self.now.used (d - 1) blank).count < k) u.1 c.if-used-uses.true)
+            (subst (Search m c.args.self.now.used (c.args.mark.name.now, c.args.mark.first.now) S c.loop-row.place) p (c.loop-row.invariant.1 S t)),
       );
     }
 
@@ -75,14 +75,14 @@ returns-then-used-uses-2 g c = record {
       let d = c.loop-row.depth in
       let p : d ≡ suc (d - 1) = omega arith in
       let u = c.uses_of-uses.ensures in
-      stops_at_used m c.args.set.now.used (c.args.mark.name.now, c.args.mark.first.now) S c.loop-row.place (d - 1)
+      stops_at_used m c.args.self.now.used (c.args.mark.name.now, c.args.mark.first.now) S c.loop-row.place (d - 1)
       (subst (λ (k : ℕ). NoRowOfDepth k (drop c.loop-row.place (table_of m))) p c.in_default.ensures)
       (elim c.else-used-uses.branch [
         | else-used-uses-via-then-used-uses+else-fits-2 w ↦ inr (sym w.if-fits-2.ensures)
-        | else-used-uses-via-else-used-uses w ↦ inl (subst (λ (k : ℕ). k ≤ (get_or c.args.set.now.used (d - 1) blank).count) u.1 w.if-used-uses.false)
+        | else-used-uses-via-else-used-uses w ↦ inl (subst (λ (k : ℕ). k ≤ (get_or c.args.self.now.used (d - 1) blank).count) u.1 w.if-used-uses.false)
       ])
-      (subst (λ (k : ℕ). (get_or c.args.set.now.used (d - 1) blank).count < k) u.0 c.if-used-uses-2.true)
-      (subst (Search m c.args.set.now.used (c.args.mark.name.now, c.args.mark.first.now) S c.loop-row.place) p (c.loop-row.invariant.1 S t));
+      (subst (λ (k : ℕ). (get_or c.args.self.now.used (d - 1) blank).count < k) u.0 c.if-used-uses-2.true)
+      (subst (Search m c.args.self.now.used (c.args.mark.name.now, c.args.mark.first.now) S c.loop-row.place) p (c.loop-row.invariant.1 S t));
 }
 
 pub loop-row-preserved : goal.loop-row-preserved
@@ -93,12 +93,12 @@ loop-row-preserved g c =
     let u = c.uses_of-uses.ensures in
     let inside = c.loop-row.invariant.0 in (
       omega arith,
-      λ S t. leaves m c.args.set.now.used (c.args.mark.name.now, c.args.mark.first.now) S c.loop-row.place (d - 1)
+      λ S t. leaves m c.args.self.now.used (c.args.mark.name.now, c.args.mark.first.now) S c.loop-row.place (d - 1)
           (subst (λ (k : ℕ). NoRowOfDepth k (drop c.loop-row.place (table_of m))) p c.in_default.ensures)
           (elim c.else-used-uses.branch [
             | else-used-uses-via-then-used-uses+else-fits-2 w ↦ inr (sym w.if-fits-2.ensures)
-            | else-used-uses-via-else-used-uses w ↦ inl (subst (λ (k : ℕ). k ≤ (get_or c.args.set.now.used (d - 1) blank).count) u.1 w.if-used-uses.false)
+            | else-used-uses-via-else-used-uses w ↦ inl (subst (λ (k : ℕ). k ≤ (get_or c.args.self.now.used (d - 1) blank).count) u.1 w.if-used-uses.false)
           ])
-          (subst (λ (k : ℕ). k ≤ (get_or c.args.set.now.used (d - 1) blank).count) u.0 c.if-used-uses-2.false)
-          (subst (Search m c.args.set.now.used (c.args.mark.name.now, c.args.mark.first.now) S c.loop-row.place) p (c.loop-row.invariant.1 S t)),
+          (subst (λ (k : ℕ). k ≤ (get_or c.args.self.now.used (d - 1) blank).count) u.0 c.if-used-uses-2.false)
+          (subst (Search m c.args.self.now.used (c.args.mark.name.now, c.args.mark.first.now) S c.loop-row.place) p (c.loop-row.invariant.1 S t)),
     )

@@ -12,7 +12,7 @@ use Rattle.placing.specs.Model.{taken, around_of, loop_with}
 use Rattle.placing.specs.Stages.{StandsAt, marked, spot_for}
 use Rattle.placing.proofs.Inside.{inside_refused, inside_taken}
 use Rattle.placing.proofs.Turns.{NextPhase, phase_behind_lem}
-use Rattle.placing.proofs.steps.inside.Goals as goal
+use Rattle.placing.proofs.placer.Placer.inside.Goals as goal
 
 -- what was taken, in the words of the code
 told : (m : Meaning) (S : LoopState) (g s : ℕ) (us : List CodeRow) (n : ℕ) (c : Choice) (mk : Mark) (p : Phase) (x : Placed)
@@ -30,7 +30,7 @@ told m S g s us n c mk p x ex place vs depth ep ev ed t =
 pub returns-in_err-choice : goal.returns-in_err-choice
 returns-in_err-choice g c = λ e S st.
     let m = g.G.Guide.meaning c.args.guide.now in
-    let p = c.args.placer.now in
+    let p = c.args.self.now in
     rw c.from_residual.ensures
     (inside_refused m (g.G.Guide.lawful c.args.guide.now) p.set.used p.set.place p.set.depth p.groups p.sets (marked c.args.mark) S
     (subst (λ (k : Phase). StandsAt m k p.groups p.sets p.set.place p.set.used p.set.depth S) e st)
@@ -39,7 +39,7 @@ returns-in_err-choice g c = λ e S st.
 pub returns : goal.returns
 returns g c = λ e S st.
     let m = g.G.Guide.meaning c.args.guide.now in
-    let p = c.args.placer.now in
+    let p = c.args.self.now in
     let us = p.set.used in
     let n = c.args.segment in
     let ch = c.in_ok-choice.choice in
