@@ -1,7 +1,8 @@
 use crate::phase::Phase;
 use crate::sets::SetState;
 
-// A segment in its place: its row, its innermost loop and the loop that its row stands in, each named by the segment that opens it (0: none).
+// A segment in its place: its row, its innermost loop and the loop that its row stands in, each named by the segment that opens it. 0 is none and no
+// Option: it comes before every segment's number, so that whether a loop was opened before a segment is one comparison.
 #[derive(Clone, Copy, Debug, PartialEq, Eq)]
 pub struct Placed {
     pub row: u8,

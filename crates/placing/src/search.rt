@@ -51,8 +51,9 @@ fn uses_of<G: Guide>(guide: &G, row: u8) -> Uses
 }
 
 impl SetState {
-    // The row that takes a segment with this name and first element, from where the set stands. The rows behind the place are tried first, in
-    // order; a row that must still be used stops the search. Then comes the row in use around them, once more, and what lies behind it.
+    // The row that takes a segment with this mark, from where the set stands. The rows behind the place are tried first, in order; a row that must
+    // still be used stops the search. Then comes the row in use around them, once more, and what lies behind it. A place and a depth change by turns,
+    // so it stays a loop and is no chain over one list.
     pub(crate) fn find<G: Guide>(&self, guide: &G, mark: Mark<'_>) -> Option<Choice>
         ensures bounded { IfSome result (λ choice. choice.depth ≤ 4) }
         ensures right { (S : State) → Stands (G.meaning guide.now) self.now.place self.now.used self.now.depth S

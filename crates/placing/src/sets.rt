@@ -8,7 +8,8 @@ pub struct UsedRow {
     pub around: usize,
 }
 
-// Where a set stands: behind the row that was taken last, with the rows in use, outermost first.
+// Where a set stands: behind the row that was taken last, with the rows in use, outermost first. The rows are an array with a depth and no vector of
+// the library: a state is copied for each step that may fail, and such a vector is not copied.
 #[derive(Clone, Copy)]
 pub struct SetState {
     pub place: u8,

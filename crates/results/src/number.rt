@@ -24,7 +24,8 @@ fn opens(loops: &[LoopRow], next: usize, number: usize) -> bool
     next < loops.len() && loops[next].opening == number
 }
 
-// Gives every loop its number in place of its opening segment.
+// Gives every loop its number in place of its opening segment. It counts by index, since each turn writes one row and reads an earlier one, which no
+// iterator over the rows lends at once.
 pub(crate) fn number_loops(segments: &mut [SegmentRow], loops: &mut [LoopRow])
     ensures { (z : List PlacedSegment) → Named (spots_in z) → segments.old ≡ named_rows z → loops.old ≡ closed_rows z
         → (segments.new ≡ rows_of_segments z) × (loops.new ≡ rows_of_loops z) }

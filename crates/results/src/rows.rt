@@ -1,3 +1,5 @@
+// In both tables 0 stands for none and no Option, since these are the numbers that a reading hands out: it tells rows and loops from 1 on.
+
 // A segment in the result table: the place of its first byte, the number of its bytes without the terminator, the number of its guide row
 // (0 for ISA, GS, GE and IEA), and the number of its innermost loop (0: none).
 #[derive(Clone, Copy, Debug, PartialEq, Eq)]

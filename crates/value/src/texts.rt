@@ -54,8 +54,7 @@ pub(crate) fn is_spaces(v: &[u8]) -> bool
     v.iter().all(|b| *b == b' ')
 }
 
-// Whether two byte strings are one, byte for byte. Stays beside `==`, which wants one type on both sides: `name == b"SE"` is
-// refused, and has to be `name == b"SE".as_slice()`.
+// Whether two byte strings are one, byte for byte. Stays beside `==` for what its second clause says: that the test means equality.
 pub fn same_bytes(a: &[u8], b: &[u8]) -> bool
     ensures test { result ≡ bytes_eq a.now b.now }
     ensures means { Decides result (a.now ≡ b.now) }
