@@ -9,6 +9,7 @@ use crate::rows::{LoopRow, SegmentRow};
 use guide::guide::Guide;
 use placing::marks::mark_of;
 use placing::placer::{Placed, Placer};
+use placing::rows;
 use x12::parts::{Interchange, Segment};
 
 // How many rows of each table are written.
@@ -18,11 +19,11 @@ pub(crate) struct Counts {
     pub(crate) loops: usize,
 }
 
-// The guide row that is shown: 0 for the rows of the envelope, which have the numbers from 65 on.
+// The guide row that is shown: 0 for the rows of the envelope, which come behind all rows of a guide.
 fn shown_row(row: u8) -> u8
     ensures { result ≡ row_shown row }
 {
-    if row < 65 { row } else { 0 }
+    if row < rows::ISA { row } else { 0 }
 }
 
 // The row of a segment in its place; the loop that its guide row stands in still goes by its opening segment.
