@@ -1,5 +1,5 @@
 -- A walk over the segments of an interchange, one segment a turn.
-use Rattle.std.proofs.Common.{◌≡◌, ℕ, suc, ◌+◌, ◌≤◌, List, [], length, Ok, Err, Result, sym, refl, ap, ◌∙◌, subst, add-one, arith}
+use Rattle.std.proofs.Common.{◌≡◌, ℕ, suc, ◌+◌, ◌≤◌, List, [], length, Err, Result, refl, ap, ◌∙◌, subst, arith}
 use Rattle.x12.specs.declared.parts.Interchange.{Interchange}
 use Rattle.x12.specs.declared.parts.Segment.{Segment}
 use Rattle.x12.specs.declared.segments.Segments.{Segments}
@@ -9,7 +9,7 @@ use Rattle.x12.specs.Header.{terminator_of}
 use Rattle.x12.specs.Segments.{segments_from, segments_of, FirstFrom}
 use Rattle.x12.specs.Views.{plain}
 use Rattle.x12.specs.Comes.{NextSegment}
-use Rattle.x12.proofs.Turns.{each_stop, each_on}
+use Rattle.x12.proofs.Turns.{each_stop}
 
 -- the iterator goes over the interchange
 pub record On (z : Interchange) (s : Segments) : Type 0 where
@@ -70,9 +70,3 @@ module _ (z : Interchange) (s : Segments) (o : On z s) where
   module _ {F : Type 0} (check : ℕ → S.Segment → Result (Unit {0}) F) (x : Segment) (t : Segments) (n : NextSegment s x t) where
     pub stops : (f : F) → check (suc s.count) (plain x) ≡ Err f → each check (suc s.count) (segments_from z.delimiters.terminator s.at z.bytes.now) ≡ Err f
     stops f h = each_stop check (suc s.count) _ _ _ f (turn x t n).first.next h
-
-    pub goes_on : (u : Unit {0}) → check (suc s.count) (plain x) ≡ Ok u
-        → each check (suc s.count) (segments_from z.delimiters.terminator s.at z.bytes.now) ≡ each check (suc t.count) (segments_from z.delimiters.terminator t.at z.bytes.now)
-    goes_on u h =
-        each_on check (suc s.count) _ _ _ u (turn x t n).first.next h
-        ∙ (let k = turn x t n in λ i. each check ((add-one (suc s.count) ∙ ap suc (sym (k.counted ∙ k.numbered))) i) (segments_from z.delimiters.terminator (sym k.behind i) z.bytes.now))

@@ -1,28 +1,17 @@
 use Rattle.std.proofs.Common.{◌≡◌, ◌+◌, ◌-◌, length, sym, ap, ◌∙◌, subst, arith, rules}
 use Rattle.x12.specs.declared.parts.Element.{Element}
 use Rattle.x12.specs.Causes.{cause_of}
-use Rattle.x12.specs.Header.{terminator_of}
 use Rattle.x12.specs.Lists.{nth}
 use Rattle.x12.specs.Segments.{segments_from, FirstFrom}
 use Rattle.x12.specs.Views.{plain}
 use Rattle.x12.proofs.Hands.{handed_out}
 use Rattle.x12.proofs.Headers.{never_ok, check_sound, sound_check}
-use Rattle.x12.proofs.Picks.{cases_zero, nth_first, nth_next}
-use Rattle.x12.proofs.Walks.{started, all_ahead, turn}
+use Rattle.x12.proofs.Picks.{nth_first, nth_next}
+use Rattle.x12.proofs.Walks.{turn}
 use Rattle.x12.proofs.elements.element.Goals as goal
 
 pub returns-in_default : goal.returns-in_default
 returns-in_default c s = absurd (never_ok (cause_of c.in_default.field-0) tt (sym c.in_default.ensures ∙ sound_check c.args.interchange.now s))
-
-pub loop-found-init : goal.loop-found-init
-loop-found-init c =
-    let I = c.args.interchange.now in
-    let it = c.into_iter-found-iterator.result in
-    let h = c.in-Ok.ensures in
-    let s = started c.args.interchange.now c.segments-found-items.result it c.in-Ok.read c.into_iter-found-iterator.ensures.into_iter_gives c.segments-found-items.ensures h.0 in
-    let t : it.interchange.delimiters.terminator ≡ terminator_of c.args.interchange.now = ap (λ y. y.interchange.delimiters.terminator) c.into_iter-found-iterator.ensures.into_iter_gives ∙ ap (λ y. y.delimiters.terminator) c.segments-found-items.ensures.0 ∙ h.4 in
-    let z : c.args.segment ≡ c.args.segment - it.count = omega (arith, s.none) in
-    (s.on, (cases_zero c.args.segment it.count s.none), (λ i. nth (sym (all_ahead c.args.interchange.now it s t) i) (z i)))
 
 pub returns-then-found-segment : goal.returns-then-found-segment
 returns-then-found-segment c =

@@ -1,28 +1,18 @@
-use Rattle.std.proofs.Common.{◌≡◌, suc, ◌+◌, List, length, sym, ap, ◌∙◌, add-zero, zero-add, rules}
+use Rattle.std.proofs.Common.{◌≡◌, suc, ◌+◌, List, length, sym, ap, ◌∙◌, add-zero, rules}
 use Rattle.std.proofs.lemmas.Result.{err_from_is_err_and}
 use Rattle.x12.specs.Lists.{each}
-use Rattle.x12.specs.Segments.{Segment, segments_from}
+use Rattle.x12.specs.Segments.{Segment}
 use Rattle.x12.specs.Causes.{cause_of}
 use Rattle.x12.specs.Checks.{segment_check}
 use Rattle.x12.specs.Views.{plain}
 use Rattle.x12.proofs.Meets.{header_refused, body_refused, body_passed}
-use Rattle.x12.proofs.Walks.{started, all_ahead, turn, ended, stops}
+use Rattle.x12.proofs.Walks.{turn, ended, stops}
 use Rattle.x12.proofs.scans.scan.Goals as goal
 
 pub returns-in_err-read : goal.returns-in_err-read
 returns-in_err-read c =
     let p = err_from_is_err_and c.from_residual.result c.from_residual.ensures.1 in
     rw (p.1, p.2) (header_refused c.args.interchange.now (cause_of c.in_err-read.field-0.0) c.in_err-read.ensures)
-
-pub loop-segment-init : goal.loop-segment-init
-loop-segment-init c =
-    let it = c.into_iter-segment-iterator.result in
-    let h = c.in_ok-read.ensures in
-    let s = started c.args.interchange.now c.segments-segment-items.result it c.in_ok-read.read c.into_iter-segment-iterator.ensures.into_iter_gives c.segments-segment-items.ensures h.0 in
-    let t = ap (λ y. y.interchange.delimiters.terminator) c.into_iter-segment-iterator.ensures.into_iter_gives ∙ ap (λ y. y.delimiters.terminator) c.segments-segment-items.ensures.0 ∙ h.4 in
-    let a = all_ahead c.args.interchange.now it s t in
-    let check = segment_check it.interchange.delimiters.separator it.interchange.delimiters.component in
-    (s.on, s.none, zero-add (length (segments_from it.interchange.delimiters.terminator it.at it.interchange.bytes.now)) ∙ ap length a, (λ i. each check (suc (s.none i)) (a i)))
 
 pub returns-in_err-check : goal.returns-in_err-check
 returns-in_err-check c =
