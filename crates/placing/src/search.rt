@@ -1,4 +1,4 @@
-ghost use Rattle.std.specs.Prelude.{◌≡◌, ◌+◌, ◌≤◌, drop, IfSome, MatchOption};
+ghost use Rattle.std.specs.Prelude.{◌≡◌, ◌+◌, drop, MatchOption};
 ghost use Rattle.grammar.proofs.States.{State};
 ghost use Rattle.grammar.proofs.Search.{NoRowOfDepth};
 ghost use Rattle.grammar.proofs.Determined.{Refuses};
@@ -55,8 +55,7 @@ impl SetState {
     // still be used stops the search. Then comes the row in use around them, once more, and what lies behind it. A place and a depth change by turns,
     // so it stays a loop and is no chain over one list.
     pub(crate) fn find<G: Guide>(&self, guide: &G, mark: Mark<'_>) -> Option<Choice>
-        ensures bounded { IfSome result (λ choice. choice.depth ≤ 4) }
-        ensures right { (S : State) → Stands (G.meaning guide.now) self.now.place self.now.used self.now.depth S
+        ensures { (S : State) → Stands (G.meaning guide.now) self.now.place self.now.used self.now.depth S
             → MatchOption result (Refuses (Fits (G.meaning guide.now)) S (mark.entry.name.now, mark.entry.first.now))
             (λ choice. Chosen (G.meaning guide.now) self.now.used self.now.depth (mark.entry.name.now, mark.entry.first.now) S choice) }
     {

@@ -26,4 +26,5 @@ pub struct Choice {
     pub depth: usize,
     pub count: u32,
     pub opens: bool,
+    ghost shallow: { depth ≤ 4 },
 }

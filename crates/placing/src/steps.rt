@@ -28,7 +28,6 @@ impl SetState {
 
     // The place of a segment that takes the chosen row.
     fn place_in(&self, choice: Choice, segment: usize) -> Placed
-        requires { choice.depth ≤ 4 }
         ensures { result ≡ record { row = choice.row; around = around_of self.now.used choice segment; outer = loop_with self.now.used choice.depth } }
     {
         let outer = self.loop_at(choice.depth);
@@ -42,7 +41,6 @@ impl SetState {
 
     // The set once a segment took the chosen row, with the innermost loop of that segment.
     fn take_row(&self, choice: Choice, around: usize) -> SetState
-        requires { choice.depth ≤ 4 }
         ensures { (result.place ≡ choice.row) × (result.used ≡ write self.now.used choice.depth (record { row = choice.row; count = choice.count; around = around })) × (result.depth ≡ suc choice.depth) }
     {
         let mut used = self.used;

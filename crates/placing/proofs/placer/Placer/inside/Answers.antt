@@ -34,7 +34,7 @@ returns-in_err-choice g c = λ e S st.
     rw c.from_residual.ensures
     (inside_refused m (g.G.Guide.lawful c.args.guide.now) p.set.used p.set.place p.set.depth p.groups p.sets (marked c.args.mark) S
     (subst (λ (k : Phase). StandsAt m k p.groups p.sets p.set.place p.set.used p.set.depth S) e st)
-    c.in_err-choice.ensures.right)
+    c.in_err-choice.ensures)
 
 pub returns : goal.returns
 returns g c = λ e S st.
@@ -43,13 +43,13 @@ returns g c = λ e S st.
     let us = p.set.used in
     let n = c.args.segment in
     let ch = c.in_ok-choice.choice in
-    let shallow = c.in_ok-choice.ensures.bounded in
+    let shallow = ch.shallow in
     let whole = p.set.whole in
     let placed = c.place_in-placed.ensures in
     let set = c.take_row-set.ensures in
     let next : NextPhase c.args.mark.name.now c.phase_behind-phase.result = subst (NextPhase c.args.mark.name.now) (sym c.phase_behind-phase.ensures) (phase_behind_lem c.args.mark.name.now) in
     let t = inside_taken m (g.G.Guide.lawful c.args.guide.now) us p.set.place p.set.depth p.groups p.sets (marked c.args.mark) n ch S c.phase_behind-phase.result
     (subst (λ (k : Phase). StandsAt m k p.groups p.sets p.set.place us p.set.depth S) e st)
-    c.in_ok-choice.ensures.right (omega arith) next in
+    c.in_ok-choice.ensures (omega arith) next in
     told m S p.groups p.sets us n ch (marked c.args.mark) c.phase_behind-phase.result c.place_in-placed.result placed
     c.take_row-set.result.place c.take_row-set.result.used c.take_row-set.result.depth set.0 set.1 set.2 t
