@@ -36,7 +36,7 @@ TotalsMet m separator k z p f = (n e : ℕ) × TotalsFails m separator z p n e �
 -- every cause of the four layers with its number, layer, segment, element and place
 abbrev pub cause_of_totals : TotalsFault → Fault
 cause_of_totals (Element f) = cause_of_element f
-cause_of_totals (WrongControl at) = fault 14 at.segment at.element at.place
+cause_of_totals (WrongControl segment place) = fault 14 segment 2 place
 cause_of_totals (WrongTotal at) = fault 15 at.segment at.element at.place
 cause_of_totals (UnlikeSum segment place) = fault 16 segment 0 place
 cause_of_totals (Repeated at) = fault 17 at.segment at.element at.place

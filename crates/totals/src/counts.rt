@@ -1,9 +1,10 @@
-ghost use Rattle.std.specs.Prelude.{◌≡◌, ◌≤◌};
+ghost use Rattle.std.specs.Prelude.{◌≡◌};
 ghost use Rattle.totals.specs.Amounts.{is_ordered, ordered_in};
 ghost use Rattle.totals.specs.Roomy.{SmallCounts};
 ghost use Rattle.totals.specs.Steps.{counts_behind, counted_by, sum_by_name, differs};
 
-use crate::amount::{Amount, quantity};
+use crate::amount::Amount;
+use crate::quantity::Quantity;
 use placing::rows;
 
 // How much came so far: of the interchange, of its last group, and of its last set. That the counts are small is asked where they grow and is no
@@ -23,12 +24,11 @@ pub struct Counts {
 impl Counts {
     // The counts behind a segment of this row, which adds this amount.
     pub(crate) fn behind(self, row: u8, amount: Amount) -> Counts
-        requires small_counts { SmallCounts self }
-        requires ordered_bound { ordered_in amount ≤ 10000000000 }
+        requires { SmallCounts self }
         ensures { result ≡ counts_behind self row (is_ordered amount) (ordered_in amount) }
     {
         let (line, ordered) = match amount {
-            Amount::Ordered(n) => (1, n),
+            Amount::Ordered(n) => (1, n.value),
             _ => (0, 0),
         };
         let set = usize::from(row == rows::ST);
@@ -78,5 +78,5 @@ impl Counts {
 pub(crate) fn is_wrong_total(wanted: Option<u64>, v: &[u8]) -> bool
     ensures { result ≡ differs wanted v.now }
 {
-    wanted.is_some_and(|n| quantity(v) != n)
+    wanted.is_some_and(|n| Quantity::of(v).value != n)
 }

@@ -13,7 +13,7 @@ use x12::faults::{ByteFault, Fault, Site};
 pub enum TotalsFault {
     Element(ElementFault),
     // A trailer does not repeat its header's control number.
-    WrongControl(Site),
+    WrongControl { segment: usize, place: usize },
     // A count or a sum is wrong.
     WrongTotal(Site),
     // The sum of ACK02 of a line is not its PO102.
@@ -29,7 +29,14 @@ impl From<TotalsFault> for Fault {
     fn from(fault: TotalsFault) -> Fault {
         match fault {
             TotalsFault::Element(lower) => Fault::from(lower),
-            TotalsFault::WrongControl(at) => Fault::new(14, at),
+            TotalsFault::WrongControl { segment, place } => Fault::new(
+                14,
+                Site {
+                    segment,
+                    element: 2,
+                    place,
+                },
+            ),
             TotalsFault::WrongTotal(at) => Fault::new(15, at),
             TotalsFault::UnlikeSum { segment, place } => {
                 Fault::new(16, Site::of_name(segment, place))

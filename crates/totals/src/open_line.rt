@@ -19,19 +19,18 @@ pub(crate) fn line_behind(
     outer: usize,
     amount: Amount,
 ) -> Option<OpenLine>
-    requires small_given { IfSome last (λ l. l.given ≤ 655370000000000) }
-    requires acknowledged_bound { acknowledged_in amount ≤ 10000000000 }
+    requires { IfSome last (λ l. l.given ≤ 655370000000000) }
     ensures { result ≡ line_after last number outer (is_ordered amount) (ordered_in amount) (acknowledged_in amount) }
 {
     let more = match amount {
         Amount::Ordered(asked) => {
             return Some(OpenLine {
                 number,
-                asked,
+                asked: asked.value,
                 given: 0,
             });
         }
-        Amount::Acknowledged(n) => n,
+        Amount::Acknowledged(n) => n.value,
         Amount::Nothing => 0,
     };
     match last {

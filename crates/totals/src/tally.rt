@@ -119,7 +119,10 @@ impl<'a> Tally<'a> {
             return Err(TotalsFault::Repeated(segment.site(1, first.place)));
         }
         if self.controls.is_wrong(placed.row, name, second.bytes) {
-            return Err(TotalsFault::WrongControl(segment.site(2, second.place)));
+            return Err(TotalsFault::WrongControl {
+                segment: segment.number,
+                place: second.place,
+            });
         }
         if is_filled(second.bytes) && is_wrong_total(self.counts.summed(name), second.bytes) {
             return Err(TotalsFault::WrongTotal(segment.site(2, second.place)));

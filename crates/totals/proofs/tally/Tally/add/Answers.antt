@@ -1,4 +1,4 @@
-use Rattle.std.proofs.Common.{◌≡◌, ℕ, true, false, cond, eqb, List, [], ◌∷◌, ◌++◌, set, replicate, ap, ◌∙◌}
+use Rattle.std.proofs.Common.{◌≡◌, ℕ, true, false, cond, eqb, List, [], ◌∷◌, ◌++◌, set, replicate, ap, ◌∙◌, subst}
 use Rattle.x12.specs.Views.{plain}
 use Rattle.x12.specs.Elements.{element_of_segment}
 use Rattle.placing.specs.Stages.{spot_for}
@@ -8,9 +8,9 @@ use Rattle.seen.specs.ControlNumbers.{numbers_of as control_numbers_of}
 use Rattle.seen.specs.LineNumbers.{numbers_of as line_numbers_of}
 use Rattle.totals.specs.declared.used_rows.UsedRows.{UsedRows}
 use Rattle.totals.specs.Words.{is_line, ordered, acknowledged}
-use Rattle.totals.specs.Amounts.{amount_by, is_ordered, ordered_in, acknowledged_in}
+use Rattle.totals.specs.Amounts.{AmountIs, is_ordered, ordered_in, acknowledged_in}
 use Rattle.totals.specs.Steps.{counts_behind, line_after}
-use Rattle.totals.proofs.Added.{line_is, ordered_is, acknowledged_is, asked_is}
+use Rattle.totals.proofs.Added.{asked_is}
 use Rattle.totals.proofs.More.{tally_more}
 use Rattle.totals.proofs.tally.Tally.add.Goals as goal
 
@@ -25,10 +25,10 @@ returns g c = λ z e is.
     let row = c.args.placed.row in
     let first : c.bytes_of-first.result.now ≡ value x p 1 = c.bytes_of-first.ensures in
     let second : c.bytes_of-second.result.now ≡ value x p 2 = c.bytes_of-second.ensures in
-    let amount : c.amount_of-amount.result ≡ amount_by (value x p 0) (value x p 2) = c.amount_of-amount.ensures.is ∙ (λ i. amount_by (c.bytes_of.ensures i) (second i)) in
-    let line : is_ordered c.amount_of-amount.result ≡ is_line x p = ap is_ordered amount ∙ line_is x p in
-    let order : ordered_in c.amount_of-amount.result ≡ ordered x p = ap ordered_in amount ∙ ordered_is x p in
-    let given : acknowledged_in c.amount_of-amount.result ≡ acknowledged x p = ap acknowledged_in amount ∙ acknowledged_is x p in
+    let amount = subst (λ (n : List ℕ × List ℕ). AmountIs n.0 n.1 c.amount_of-amount.result) (λ i. (c.bytes_of.ensures i, second i)) c.amount_of-amount.ensures in
+    let line : is_ordered c.amount_of-amount.result ≡ is_line x p = amount.0 in
+    let order : ordered_in c.amount_of-amount.result ≡ ordered x p = amount.1 in
+    let given : acknowledged_in c.amount_of-amount.result ≡ acknowledged x p = amount.2 in
     let others = c.remember.ensures.others in
     tally_more m x z p t _ is
     (record {
