@@ -8,7 +8,7 @@ use placing::rows;
 use x12::parts::Segment;
 
 // The control numbers of the interchange, of its last group and of its last set.
-#[derive(Clone, Copy)]
+#[derive(Clone, Copy, Debug, Default, PartialEq, Eq)]
 pub struct Controls<'a> {
     pub isa13: &'a [u8],
     pub gs06: &'a [u8],
@@ -55,9 +55,6 @@ impl<'a> Controls<'a> {
     pub(crate) fn is_wrong(self, row: u8, name: &[u8], v: &[u8]) -> bool
         ensures { result ≡ unlike_control (repeated_by self.entry.isa13.now self.entry.gs06.now self.entry.st02.now row name.now) v.now }
     {
-        match self.repeated(row, name) {
-            Some(wanted) => v != wanted,
-            None => false,
-        }
+        self.repeated(row, name).is_some_and(|wanted| v != wanted)
     }
 }

@@ -9,7 +9,7 @@ use placing::rows;
 
 // How much came so far: of the interchange, of its last group, and of its last set. That the counts are small is asked where they grow and is no
 // part of the type: it follows from the length of the interchange, which they do not know.
-#[derive(Clone, Copy, Debug, PartialEq, Eq)]
+#[derive(Clone, Copy, Debug, Default, PartialEq, Eq)]
 pub struct Counts {
     pub groups: usize,
     pub sets: usize,

@@ -56,23 +56,9 @@ impl<'a> Tally<'a> {
     pub fn new() -> Tally<'a>
         ensures { (m : Meaning) (separator : ℕ) → TallyIs m separator [] result }
     {
-        let counts = Counts {
-            groups: 0,
-            sets: 0,
-            lines: 0,
-            sum: 0,
-            group_sets: 0,
-            set_segments: 0,
-            set_lines: 0,
-            set_sum: 0,
-        };
         Tally {
-            counts,
-            controls: Controls {
-                isa13: b"",
-                gs06: b"",
-                st02: b"",
-            },
+            counts: Counts::default(),
+            controls: Controls::default(),
             set_numbers: ControlNumbers::new(),
             line_numbers: LineNumbers::new(),
             rows: UsedRows::new(),
