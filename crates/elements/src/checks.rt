@@ -33,6 +33,7 @@ impl<'a, G: Guide> Subject<'a, G> {
     fn has_wrong_code(&self, element: u8, rule: Option<Rule>, value: &[u8]) -> bool
         ensures { result ≡ wrong_code_by rule (admits_at (G.meaning self.now.guide.now) self.now.row element value.now) value.now }
     {
+        // The proof of is_some_and does not close over a closure that holds the subject.
         match rule {
             Some(rule) => is_judged(rule, value) && !self.is_code(element, value),
             None => false,
@@ -63,6 +64,7 @@ impl<'a, G: Guide> Subject<'a, G> {
         if !self.guide.paired(self.row, element) {
             return false;
         }
+        // A loop and no `any`: the library has no list of what 0..=limit yields, and limit + 1 need not fit.
         for other in 0..=self.limit {
             if self.is_asked_by(other, element) {
                 return true;

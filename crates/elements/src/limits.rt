@@ -1,4 +1,4 @@
-ghost use Rattle.std.specs.Prelude.{◌≡◌, not, ◌&&◌};
+ghost use Rattle.std.specs.Prelude.{◌≡◌, ◌&&◌};
 ghost use Rattle.x12.specs.Lists.{filled};
 ghost use Rattle.elements.specs.Limits.{lacks_by, exceeds_by, judges_by, wrong_length_by, wrong_type_by};
 

@@ -1,14 +1,11 @@
 //! A segment whose elements are judged, and the rules that hold for them.
 ghost use Rattle.std.specs.Prelude.{◌≡◌};
-ghost use Rattle.x12.specs.Views.{plain};
-ghost use Rattle.elements.specs.Rules.{limit_at, asks_for};
-ghost use Rattle.elements.specs.Tests.{is_unlike_pair, is_in_wrong_pair};
-ghost use Rattle.elements.specs.Limits.{limits_at, admits_at, wrong_code_by};
+ghost use Rattle.elements.specs.Rules.{limit_at};
+ghost use Rattle.elements.specs.Limits.{limits_at, admits_at};
 
 use crate::envelope::{ge_rule, gs_code, gs_rule, iea_rule, isa_code, isa_rule};
-use crate::limits::{is_filled, is_judged};
 use guide::guide::Guide;
-use guide::rules::{Kind, Rule};
+use guide::rules::Rule;
 use placing::rows;
 use x12::parts::Segment;
 

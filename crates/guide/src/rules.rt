@@ -31,18 +31,6 @@ impl Rule {
             greatest,
         }
     }
-
-    // The rule of an element that may be filled.
-    pub fn may(form: Form, least: usize, greatest: usize) -> Rule
-        ensures { result ≡ record { need = Need.May; form = form; least = least; greatest = greatest } }
-    {
-        Rule {
-            need: Need::May,
-            form,
-            least,
-            greatest,
-        }
-    }
 }
 
 // A row of a guide: in how many loops it stands, how many rows the loop has that it opens (none: it opens no loop), its least and its
