@@ -23,10 +23,7 @@ macro_rules! interchange {
 
 // What structure answers: the number of segments, or the refusal.
 fn answer<G: Guide>(guide: &G, interchange: &[u8]) -> Result<usize, Fault> {
-    match check_structure(guide, interchange) {
-        Ok(count) => Ok(count),
-        Err(fault) => Err(Fault::from(fault)),
-    }
+    Ok(check_structure(guide, interchange)?)
 }
 
 // A refusal of layer 2.
@@ -406,18 +403,8 @@ fn check_placed(
     around: usize,
     outer: usize,
 ) -> Result<(), Fail> {
-    match placed {
-        Some(found) => {
-            assert_eq!(rt; found.row, row);
-            assert_eq!(rt; found.around, around);
-            assert_eq!(rt; found.outer, outer);
-            Ok(())
-        }
-        None => {
-            assert!(rt; false);
-            Ok(())
-        },
-    }
+    assert_eq!(rt; placed, Some(Placed { row, around, outer }));
+    Ok(())
 }
 
 fn mark<'a>(name: &'a [u8], first: &'a [u8]) -> Mark<'a> {

@@ -17,10 +17,7 @@ macro_rules! interchange {
 
 // What the scan answers: the number of segments, or the refusal.
 fn answer(interchange: &[u8]) -> Result<usize, Fault> {
-    match scan(interchange) {
-        Ok(count) => Ok(count),
-        Err(fault) => Err(Fault::from(fault)),
-    }
+    Ok(scan(interchange)?)
 }
 
 fn at(number: u8, segment: usize, element: usize, place: usize) -> Result<usize, Fault> {
