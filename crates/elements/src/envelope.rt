@@ -1,4 +1,5 @@
-//! The rules of the envelope's elements, and their codes. They are matches and no table as a guide has, since two of the values are the guide's own.
+//! The rules of the envelope's elements, and their codes. They are matches and no table as a guide has: two of the values are the guide's own, and one
+//! form for the four rows is plainer than two.
 ghost use Rattle.std.specs.Prelude.{◌≡◌, [], ◌∷◌};
 ghost use Rattle.guide.specs.Asked.{over, test, find_rule, is_among, admits};
 ghost use Rattle.elements.specs.Envelope.{isa_rules, gs_rules, ge_rules, iea_rules};

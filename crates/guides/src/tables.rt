@@ -37,7 +37,7 @@ pub(crate) const ONCE: Row = Row {
 };
 
 // An element in a table, by its number, type, least and greatest length, and its codes if there are any. Macros, since the value of a constant
-// calls no function.
+// calls no function; they hold no ghost item.
 macro_rules! element {
     ($need:ident, $number:expr, $form:ident, $least:expr, $greatest:expr, $codes:expr) => {
         Element {
@@ -77,7 +77,7 @@ pub(crate) use element;
 pub(crate) use may;
 pub(crate) use must;
 
-// A guide whose rows stand in a table.
+// A guide whose rows stand in a table. Its meaning stands here too: the impl of Guide is written by the functions below, so they cannot ask for it.
 pub(crate) trait Tabled {
     ghost meaning: { Self → Meaning };
 
@@ -102,12 +102,14 @@ fn is_admitted(codes: &[&[u8]], value: &[u8]) -> bool
 }
 
 impl TableRow {
+    // Whether the row takes a segment with this mark: by its name, and by its first element where the row has values for that.
     fn fits(&self, mark: Mark<'_>) -> bool
         ensures { result ≡ matches (row_meant self.now) mark.entry.name.now mark.entry.first.now }
     {
         mark.name == self.name && is_admitted(self.placing, mark.first)
     }
 
+    // The element with this number, if it has a rule.
     fn element(&self, number: u8) -> Option<&'static Element>
         ensures { option_copied result ≡ find (λ e. number == e.number) self.now.elements.now }
     {
@@ -116,12 +118,14 @@ impl TableRow {
             .find(|element| element.number == number)
     }
 
+    // Whether a pair rule asks for b where a is filled.
     fn pairs(&self, a: u8, b: u8) -> bool
         ensures { result ≡ list_any (λ p. (a == p.0) && b == p.1) self.now.pairs.now }
     {
         self.pairs.contains(&(a, b))
     }
 
+    // Whether any pair rule asks for b.
     fn is_paired(&self, b: u8) -> bool
         ensures { result ≡ list_any (λ p. nat_eq b p.1) self.now.pairs.now }
     {

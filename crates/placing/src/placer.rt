@@ -2,7 +2,7 @@ use crate::phase::Phase;
 use crate::sets::SetState;
 
 // A segment in its place: its row, its innermost loop and the loop that its row stands in, each named by the segment that opens it. 0 is none and no
-// Option: it comes before every segment's number, so that whether a loop was opened before a segment is one comparison.
+// Option, as in the spots of a derivation: so a place is such a spot as it stands, and the two are compared by numbers.
 #[derive(Clone, Copy, Debug, PartialEq, Eq)]
 pub struct Placed {
     pub row: u8,

@@ -1,6 +1,6 @@
 ghost use Rattle.std.specs.Prelude.{◌≡◌, ◌≤◌, length};
 
-// A row in use: how often it was used, and the innermost loop of its last segment, by the segment that opens it (0: none).
+// A row in use: how often it was used, and the innermost loop of its last segment, by the segment that opens it (0: none, as in a place).
 #[derive(Clone, Copy, Debug, PartialEq, Eq)]
 pub struct UsedRow {
     pub row: u8,
@@ -9,7 +9,7 @@ pub struct UsedRow {
 }
 
 // Where a set stands: behind the row that was taken last, with the rows in use, outermost first. The rows are an array with a depth and no vector of
-// the library: a state is copied for each step that may fail, and such a vector is not copied.
+// the library: a state is copied for each step that may fail, and such a vector is not Copy.
 #[derive(Clone, Copy)]
 pub struct SetState {
     pub place: u8,

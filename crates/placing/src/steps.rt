@@ -135,8 +135,8 @@ impl Placer {
         }
     }
 
-    // The place of the segment with this number, by its mark, and the state behind it; none where no row takes it. The turn has a definition of
-    // its own, so this stays a match on it.
+    // The place of the segment with this number, by its mark, and the state behind it; none where no row takes it. The turn is told
+    // apart first, by a definition of its own: a match on phase and name at once would leave its last arm to say again what is left for each phase.
     pub(crate) fn next_step<G: Guide>(
         &self,
         guide: &G,

@@ -17,6 +17,7 @@ pub enum Turn {
     Nowhere,
 }
 
+// What the segment with this name does, from this phase on.
 pub(crate) fn turn_of(phase: Phase, name: &[u8]) -> Turn
     ensures { result ≡ turn_of phase name.now }
 {

@@ -58,9 +58,7 @@ fn repeated(
 ) -> Result<Vec<u8>, AllocError> {
     let mut bytes = Vec::from_slice(heap, interchange!(""))?;
     bytes.extend_from_slice(before)?;
-    for _ in 0..times {
-        bytes.extend_from_slice(part)?;
-    }
+    bytes.extend_from_slice(&part.repeat(heap, times)?)?;
     bytes.extend_from_slice(behind)?;
     Ok(bytes)
 }
@@ -425,7 +423,13 @@ fn an_sch_after_the_second_ack_belongs_to_that_ack(rt: HostRuntime) -> Result<()
     check_placed(&rt, placer.place(&GuideB, 9, mark(b"PO1", b"")), 7, 9, 0)?;
     check_placed(&rt, placer.place(&GuideB, 10, mark(b"ACK", b"")), 10, 10, 9)?;
     check_placed(&rt, placer.place(&GuideB, 11, mark(b"ACK", b"")), 10, 11, 9)?;
-    check_placed(&rt, placer.place(&GuideB, 12, mark(b"SCH", b"")), 11, 11, 11)?;
+    check_placed(
+        &rt,
+        placer.place(&GuideB, 12, mark(b"SCH", b"")),
+        11,
+        11,
+        11,
+    )?;
     // a segment that has no place leaves the placer as it was
     assert!(rt; placer.place(&GuideB, 13, mark(b"CUR", b"")).is_none());
     check_placed(&rt, placer.place(&GuideB, 13, mark(b"PO1", b"")), 7, 13, 0)?;

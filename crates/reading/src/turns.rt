@@ -23,6 +23,9 @@ use totals::faults::TotalsFault;
 use totals::tally::Tally;
 use x12::parts::Segment;
 
+// Guide, placer and tally stay three parameters: they are lent for one turn, two of them to be changed, and each is asked by itself where the segments
+// end.
+
 // The bytes of the segment, and its place.
 fn place_segment<G: Guide>(
     guide: &G,

@@ -1,3 +1,5 @@
+// The two tables are lent side by side and not as one value: they are the caller's, each of its own length.
+//
 // In both tables 0 stands for none and no Option, since these are the numbers that a reading hands out: it tells rows and loops from 1 on.
 
 // A segment in the result table: the place of its first byte, the number of its bytes without the terminator, the number of its guide row

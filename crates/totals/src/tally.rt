@@ -74,7 +74,8 @@ impl<'a> Tally<'a> {
         self.rows.lacks(row, name)
     }
 
-    // The first fault of the totals at a segment of this row, with this name and these first two elements.
+    // The first fault of the totals at a segment that is placed so, with this name and these first two elements. A row and a name stay two values
+    // here and below: placing gives the one and the segment has the other, and a type of both would be made only to be taken apart.
     fn judge<G: Guide>(
         &self,
         guide: &G,

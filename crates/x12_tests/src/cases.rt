@@ -33,9 +33,7 @@ fn at(number: u8, segment: usize, element: usize, place: usize) -> Result<usize,
 // A sound header and then `count` bytes `b`.
 fn filled(heap: Global, count: usize, b: u8) -> Result<Vec<u8>, AllocError> {
     let mut bytes = Vec::from_slice(heap, interchange!(""))?;
-    for _ in 0..count {
-        bytes.push(b)?;
-    }
+    bytes.extend_from_slice(&[b].repeat(heap, count)?)?;
     Ok(bytes)
 }
 
