@@ -46,7 +46,7 @@ pub struct Row {
 }
 
 // What a segment is known by: its name and its first element, empty where it is absent.
-#[derive(Clone, Copy)]
+#[derive(Clone, Copy, Debug, PartialEq, Eq)]
 pub struct Mark<'a> {
     pub name: &'a [u8],
     pub first: &'a [u8],

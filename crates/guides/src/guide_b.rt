@@ -9,7 +9,7 @@ use guide::rules::{Kind, Mark, Need, Row, Rule};
 use value::forms::Form;
 
 // Guide B.
-#[derive(Clone, Copy)]
+#[derive(Clone, Copy, Debug, PartialEq, Eq)]
 pub struct GuideB;
 
 // What kind of number a party is known by.

@@ -9,7 +9,7 @@ use guide::rules::{Kind, Mark, Need, Row, Rule};
 use value::forms::Form;
 
 // Guide M.
-#[derive(Clone, Copy)]
+#[derive(Clone, Copy, Debug, PartialEq, Eq)]
 pub struct GuideM;
 
 // The rows in order.

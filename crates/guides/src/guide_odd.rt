@@ -11,7 +11,7 @@ use guide::rules::{Kind, Mark, Need, Row, Rule};
 use value::forms::Form;
 
 // The odd guide, for tests only.
-#[derive(Clone, Copy)]
+#[derive(Clone, Copy, Debug, PartialEq, Eq)]
 pub struct GuideOdd;
 
 // The rows in order.

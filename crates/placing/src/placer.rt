@@ -11,7 +11,7 @@ pub struct Placed {
 }
 
 // The state of placing: the phase, how many groups were begun and how many sets of the group, and where the set stands.
-#[derive(Clone, Copy)]
+#[derive(Clone, Copy, Debug, PartialEq, Eq)]
 pub struct Placer {
     pub phase: Phase,
     pub groups: u32,
@@ -20,7 +20,7 @@ pub struct Placer {
 }
 
 // A segment's place, and the state behind it.
-#[derive(Clone, Copy)]
+#[derive(Clone, Copy, Debug, PartialEq, Eq)]
 pub struct Step {
     pub placed: Placed,
     pub placer: Placer,

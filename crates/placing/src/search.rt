@@ -25,7 +25,7 @@ fn row_behind<G: Guide>(guide: &G, place: u8, depth: usize) -> Option<Row>
 }
 
 // How often a row must and may be used, and whether it opens a loop.
-#[derive(Clone, Copy)]
+#[derive(Clone, Copy, Debug, PartialEq, Eq)]
 struct Uses {
     least: u32,
     greatest: u32,

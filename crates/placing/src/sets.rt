@@ -10,7 +10,7 @@ pub struct UsedRow {
 
 // Where a set stands: behind the row that was taken last, with the rows in use, outermost first. The rows are an array with a depth and no vector of
 // the library: a state is copied for each step that may fail, and such a vector is not Copy.
-#[derive(Clone, Copy)]
+#[derive(Clone, Copy, Debug, PartialEq, Eq)]
 pub struct SetState {
     pub place: u8,
     pub used: [UsedRow; 5],

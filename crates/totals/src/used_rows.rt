@@ -4,7 +4,7 @@ ghost use Rattle.totals.specs.Small.{is_byte};
 mod marking;
 
 // The rows of the segments of the last set, and the row that the set has to hold by its BAK.
-#[derive(Clone, Copy)]
+#[derive(Clone, Copy, Debug, PartialEq, Eq)]
 pub struct UsedRows {
     pub needed: Option<u8>,
     pub used: [bool; 256],
