@@ -1,5 +1,7 @@
 -- One segment after the other: what was placed so far, and what follows of it.
-use Rattle.std.proofs.Common.{◌≡◌, ℕ, suc, true, false, List, [], ◌∷◌, ◌++◌, length, is_some, Some, None, Option, sym, ap, ◌∙◌, subst, true≢false, append_assoc, append-nil}
+use Rattle.std.proofs.Common.{◌≡◌, ℕ, suc, true, false, List, [], ◌∷◌, ◌++◌, length, is_some, Some, None, Option, Ok, Err, Result, refl, sym, ap, ◌∙◌, subst, true≢false, append_assoc, append-nil}
+use Rattle.std.specs.Option.{ok_or}
+use Rattle.std.specs.Result.{is_ok}
 use Rattle.x12.specs.Header.{separator_of, terminator_of}
 use Rattle.x12.specs.Segments.{Segment, segments_of, segments_from}
 use Rattle.x12.specs.Causes.{fault}
@@ -8,6 +10,7 @@ use Rattle.grammar.specs.Marks.{Mark}
 use Rattle.grammar.specs.Theorems.{OneDerivation, OnlyBegun}
 use Rattle.guide.specs.Meaning.{Meaning}
 use Rattle.guide.specs.Asked.{rows_of, label_of}
+use Rattle.placing.specs.declared.faults.SegmentFault.{SegmentFault}
 use Rattle.placing.specs.declared.placer.Placed.{Placed}
 use Rattle.placing.specs.declared.placer.Placer.{Placer}
 use Rattle.placing.specs.Placing.{HasPlaced, FitsNowhere, PlacesNext}
@@ -38,6 +41,19 @@ module _ (m : Meaning) (p p' : Placer) (separator n : ℕ) (mk : Mark) (r : Opti
       go : (r : Option Placed) → is_some r ≡ false → PlacesNext m p p' n mk r → FitsNowhere m (marks_in separator done) mk
       go None h x = (x (marks_in separator done) old number).0
       go (Some y) h x = absurd (true≢false h)
+
+-- whether there is a place, by the answer that has a fault in its stead
+abbrev fault_in : SegmentFault → Result Placed SegmentFault → SegmentFault
+fault_in d (Ok y) = d
+fault_in d (Err f) = f
+
+pub placed_if : (r : Option Placed) (y : Placed) (f : SegmentFault) → Ok y ≡ ok_or r f → is_some r ≡ true
+placed_if None y f e = absurd (true≢false (ap is_ok e))
+placed_if (Some x) y f e = refl
+
+pub misplaced_if : (r : Option Placed) (f g : SegmentFault) → Err g ≡ ok_or r f → (is_some r ≡ false) × (g ≡ f)
+misplaced_if None f g e = (refl, ap (fault_in f) e)
+misplaced_if (Some x) f g e = absurd (true≢false (sym (ap is_ok e)))
 
 -- in the words of the interchange
 module _ (m : Meaning) (I : List ℕ) (terminator separator : ℕ) (et : terminator ≡ terminator_of I) (es : separator ≡ separator_of I) (done : List Segment) where

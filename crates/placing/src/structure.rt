@@ -23,12 +23,12 @@ fn place_segments<G: Guide>(guide: &G, interchange: &Interchange<'_>) -> Result<
     let mut count = 0;
     for segment in interchange.segments() {
         count = segment.number;
-        if placer.place(guide, count, mark_of(&segment)).is_none() {
-            return Err(SegmentFault::Misplaced {
+        placer
+            .place(guide, count, mark_of(&segment))
+            .ok_or(SegmentFault::Misplaced {
                 segment: count,
                 place: segment.place,
-            });
-        }
+            })?;
     }
     if !placer.is_whole() {
         return Err(SegmentFault::Incomplete {
