@@ -5,7 +5,8 @@ ghost use Rattle.value.specs.Texts.{code_byte, text_byte, is_space, code, text, 
 
 use x12::classes::Class;
 
-// Whether the byte may stand in a code: one of class 1 or 2, a capital letter or a digit.
+// Whether the byte may stand in a code: one of class 1 or 2, a capital letter or a digit. The bytes of a segment's name are the same by another rule,
+// which is said and kept apart from this one.
 fn is_code_byte(b: u8) -> bool
     ensures { result ≡ code_byte b }
 {
