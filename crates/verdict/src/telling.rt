@@ -23,12 +23,12 @@ fn spaced(word: &str, all: &[u64]) -> ArrayString<128>
     text
 }
 
-// What a verdict says: ACCEPTED with the totals, or REFUSED with what the fault says.
-fn words(verdict: Verdict) -> ArrayString<128>
-    ensures is { result.bytes ≡ words_of verdict }
-    ensures room { length result.bytes < 128 }
+// The line of a verdict: what it says, and the line feed.
+// Not by writeln!: that promises its text where it gives Ok, but promises Ok nowhere, however much room there is.
+pub fn verdict_line(verdict: Verdict) -> Line
+    ensures { text_of result ≡ line_of verdict }
 {
-    match verdict {
+    let mut text = match verdict {
         Verdict::Accepted(t) => spaced(
             "ACCEPTED",
             &[t.segments as u64, t.sets as u64, t.lines as u64, t.sum],
@@ -43,22 +43,23 @@ fn words(verdict: Verdict) -> ArrayString<128>
                 f.place as u64,
             ],
         ),
-    }
-}
-
-// The line of a verdict: what it says, and the line feed.
-pub fn verdict_line(verdict: Verdict) -> Line
-    ensures { text_of result ≡ line_of verdict }
-{
-    let mut text = words(verdict);
+    };
     text.push('\n');
     Line { text }
 }
 
+// ACCEPTED with the totals, or REFUSED with what the fault says.
 impl fmt::Display for Verdict {
     ghost output = { λ v. Some (words_of v) };
 
     fn fmt<W: fmt::Write>(&self, f: &mut fmt::Formatter<W>) -> fmt::Result {
-        f.write_str(words(*self).as_str())
+        match *self {
+            Verdict::Accepted(t) => write!(
+                f,
+                "ACCEPTED {} {} {} {}",
+                t.segments, t.sets, t.lines, t.sum
+            ),
+            Verdict::Refused(fault) => write!(f, "REFUSED {fault}"),
+        }
     }
 }

@@ -6,6 +6,7 @@ use reading::read::read;
 use results::rows::{LoopRow, SegmentRow};
 use std::alloc::Global;
 use std::io::{Read, Write};
+use verdict::line::Line;
 use verdict::telling::verdict_line;
 use verdict::verdicts::Verdict;
 use x12::faults::Fault;
@@ -30,21 +31,20 @@ const NO_LOOP: LoopRow = LoopRow {
     row: 0,
 };
 
-// The verdict on an interchange under guide B.
-fn judged(heap: Global, interchange: &[u8]) -> anyhow::Result<Verdict> {
+// The line of the verdict on an interchange under guide B.
+fn judged(heap: Global, interchange: &[u8]) -> anyhow::Result<Line> {
     let mut segments = vec![in heap; NO_SEGMENT; ROWS]?;
     let mut loops = vec![in heap; NO_LOOP; ROWS]?;
-    match read(&GuideB, interchange, &mut segments, &mut loops) {
-        Ok(totals) => Ok(Verdict::Accepted(totals)),
-        Err(fault) => Ok(Verdict::Refused(Fault::from(fault))),
-    }
+    let answer = read(&GuideB, interchange, &mut segments, &mut loops);
+    let verdict = Verdict::from(answer.map_err(Fault::from));
+    Ok(verdict_line(verdict))
 }
 
 fn main(rt: HostRuntime) -> anyhow::Result<()> {
     let mut interchange = Vec::new(rt.alloc());
     let mut input = rt.stdin().take(MOST);
     input.read_to_end(&mut interchange)?;
-    let verdict = judged(rt.alloc(), &interchange)?;
-    rt.stdout().write_all(verdict_line(verdict).as_bytes())?;
+    let line = judged(rt.alloc(), &interchange)?;
+    rt.stdout().write_all(line.as_bytes())?;
     Ok(())
 }
