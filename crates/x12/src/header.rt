@@ -1,7 +1,7 @@
-ghost use Rattle.std.specs.Prelude.{◌≡◌, ◌≤◌, true, length, take, Ok, Err, MatchResult};
+ghost use Rattle.std.specs.Prelude.{◌≡◌, ◌≤◌, length, take, Ok, Err, MatchResult};
 ghost use Rattle.std.specs.List.{list_all, enumerate_from};
 ghost use Rattle.x12.specs.Lists.{among};
-ghost use Rattle.x12.specs.Header.{separator_of, component_of, terminator_of, separator_places, named, placed, layout_holds, delimited};
+ghost use Rattle.x12.specs.Header.{separator_of, component_of, terminator_of, separator_places, named, placed, layout_holds};
 ghost use Rattle.x12.specs.Causes.{cause_of};
 ghost use Rattle.x12.specs.Checks.{header_check};
 
