@@ -21,10 +21,9 @@ fn is_separator_place(i: usize) -> bool
 
 // Whether the interchange begins with ISA.
 fn is_named(interchange: &[u8]) -> bool
-    requires { 106 ≤ length interchange.now }
     ensures { result ≡ named interchange.now }
 {
-    interchange[0] == b'I' && interchange[1] == b'S' && interchange[2] == b'A'
+    interchange.starts_with(b"ISA")
 }
 
 // Whether byte `b` may stand at place `i` of the header, before the terminator.
