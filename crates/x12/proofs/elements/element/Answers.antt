@@ -26,7 +26,7 @@ returns-in_err-found c =
     let h = from_ok _ _ c.read.result read (sym c.ok.ensures.value ∙ c.in_ok-read.was) c.read.ensures in
     let n = c.in_ok-checked_sub.field-0 in
     let k : n + 1 ≡ c.args.segment = omega (arith, c.in_ok-checked_sub.ensures) in
-    let m = nth_of_all I c.args.segment read n c.segments.result c.nth.result c.nth.new.self c.segments.ensures h.0 h.4 k c.nth.ensures.ran in
+    let m = nth_of_all I c.args.segment read n _ c.nth.result c.nth.new.self (search rules) h.0 h.4 k c.nth.ensures.ran in
     at_none _ c.from_residual-in_err-found.result c.from_residual-in_err-found.ensures
     (λ s. no_segment I c.args.segment c.args.number (MatchOption-at_none _ _ c.in_err-found.was m))
 
@@ -37,7 +37,7 @@ returns c =
     let h = from_ok _ _ c.read.result read (sym c.ok.ensures.value ∙ c.in_ok-read.was) c.read.ensures in
     let n = c.in_ok-checked_sub.field-0 in
     let k : n + 1 ≡ c.args.segment = omega (arith, c.in_ok-checked_sub.ensures) in
-    let m = nth_of_all I c.args.segment read n c.segments.result c.nth.result c.nth.new.self c.segments.ensures h.0 h.4 k c.nth.ensures.ran in
+    let m = nth_of_all I c.args.segment read n _ c.nth.result c.nth.new.self (search rules) h.0 h.4 k c.nth.ensures.ran in
     let x = c.in_ok-found.found in
     let f = MatchOption-at_some _ _ x c.in_ok-found.was m in
     handed_out I c.args.segment c.args.number x.separator (plain x) (check_sound I tt h.1) (f.1 ∙ h.2) f.0 f.2 f.3
