@@ -1,6 +1,8 @@
 -- What stands at a place of a list, and what an iterator gives at its place.
 use Rattle.std.proofs.Common.{◌≡◌, ℕ, zero, suc, ◌+◌, ◌-◌, ◌≤◌, List, [], ◌∷◌, length, take, drop, Some, None, Option, MatchOption, IfSome, sym, refl, ap, ◌∙◌, subst, arith, add-zero}
 use Rattle.std.specs.Iterator.{Yields, SkipsThenYields}
+use Rattle.std.specs.List.{between}
+use Rattle.std.specs.Option.{unwrap_or}
 use Rattle.x12.specs.declared.parts.Element.{Element}
 use Rattle.x12.specs.declared.parts.Interchange.{Interchange}
 use Rattle.x12.specs.declared.parts.Segment.{Segment}
@@ -13,8 +15,6 @@ use Rattle.x12.specs.Header.{terminator_of}
 use Rattle.x12.specs.Elements.{PartOf, part_at, end_of, element_of_segment}
 use Rattle.x12.specs.Views.{plain}
 use Rattle.x12.specs.Comes.{NextElement, ElementComes, SegmentComes, parts_from}
-use Rattle.std.specs.List.{between}
-use Rattle.std.specs.Option.{unwrap_or}
 use Rattle.x12.proofs.Picks.{part_of}
 use Rattle.x12.proofs.Walks.{On, Turn, Started, started, turn, ended, all_ahead}
 
@@ -154,10 +154,12 @@ module _ (I : List ℕ) (k : ℕ) where
     where
       st : Started I s
       st = started I s s z refl m w
+
       all : nth (segments_left s.interchange s) (suc n) ≡ nth (segments_of I) k
       all = let y : suc n ≡ k = omega (arith, q) in (λ i. nth (all_ahead I s st (ap (λ x. x.delimiters.terminator) m.0 ∙ e) i) (y i))
+
       go : (r : Option Segment) → MatchOption r (nth (segments_left s.interchange s) (suc n) ≡ None)
-              (λ x. (nth (segments_left s.interchange s) (suc n) ≡ Some (plain x)) × ((t : Segments) × Turn s.interchange t x u)) → Picked z r
+          (λ x. (nth (segments_left s.interchange s) (suc n) ≡ Some (plain x)) × ((t : Segments) × Turn s.interchange t x u)) → Picked z r
       go None y = sym all ∙ y
       go (Some x) (y, (t, a)) =
           let f = subst (λ (l : List ℕ). FirstFrom l s.interchange.delimiters.terminator t.at x.place x.bytes.now x.closed) st.within a.first in

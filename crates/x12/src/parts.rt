@@ -10,7 +10,8 @@ pub struct Delimiters {
     ghost printed: { (class_of separator ≡ 5) × (class_of component ≡ 5) × (class_of terminator ≡ 5) },
 }
 
-// An interchange with its delimiters.
+// An interchange with its delimiters. That these are those of its bytes is no invariant: it would ask more of those who make an interchange by
+// hand and lend it to `fill`, which takes any.
 #[derive(Clone, Copy, Debug, PartialEq, Eq)]
 pub struct Interchange<'a> {
     pub bytes: &'a [u8],
