@@ -1,93 +1,81 @@
 -- What a search in the rest of a list finds, as a place of the list.
-use Rattle.std.proofs.Common.{◌≡◌, ℕ, zero, suc, ◌+◌, ◌-◌, ◌<◌, ◌≤◌, Bool, true, false, not, cond, List, [], ◌∷◌, length, drop, get_or, Some, None, sym, refl, ap, ◌∙◌, inl, inr, arith, length-drop, take_all}
+use Rattle.std.proofs.Common.{◌≡◌, ℕ, ◌+◌, ◌-◌, ◌<◌, ◌≤◌, Bool, true, false, not, List, length, drop, get_or, Some, None, Option, MatchOption, sym, refl, ap, ◌∙◌, subst, arith, length-drop, take_all}
 use Rattle.std.proofs.lemmas.List.{get_or-drop}
-use Rattle.std.proofs.lemmas.List.Quantifiers.{position-Some}
-use Rattle.std.proofs.lemmas.Bool.{eqb-true, eqb-false, cases_lt, lt-ltb, cond-true, not-true, true≢false}
-use Rattle.std.proofs.lemmas.Option.{none-some}
-use Rattle.std.specs.List.{position, position_or_len}
-use Rattle.std.specs.List.{between}
+use Rattle.std.proofs.lemmas.Bool.{eqb-true, eqb-false, true≢false}
 use Rattle.std.specs.Prelude.{◌==◌}
-use Rattle.x12.specs.Find.{Finds, Passes}
+use Rattle.std.specs.List.{between, AllWithin, HoldsAt}
+use Rattle.x12.specs.Find.{Finds, Passes, Stops}
 use Rattle.x12.specs.Segments.{is_break}
 
--- the first byte does not pass, or it is the first that does
-first_or_later : (p : ℕ → Bool) (x : ℕ) (xs : List ℕ) (k : ℕ) (t : Bool) → p x ≡ t → k < cond (not t) (1 + position_or_len p xs) 0
-    → ((i : ℕ) → i < position_or_len p xs → p (get_or xs i 0) ≡ false) → p (get_or (x ∷ xs) k 0) ≡ false
-first_or_later p x xs k true e h more = absurd (omega arith)
-first_or_later p x xs zero false e h more = e
-first_or_later p x xs (suc k) false e h more = more k (omega arith)
+module _ (test : ℕ → Bool → Type 0) (s : List ℕ) (from : ℕ) (le : from ≤ length s) where
+  abbrev Fails : ℕ → Type 0
+  Fails x = test x false
 
--- no byte before the first that passes does
-before_first : (p : ℕ → Bool) (xs : List ℕ) (k : ℕ) → k < position_or_len p xs → p (get_or xs k 0) ≡ false
-before_first p [] k h = absurd (omega arith)
-before_first p (x ∷ xs) k h = first_or_later p x xs k (p x) refl h (before_first p xs)
+  abbrev Hits : ℕ → Type 0
+  Hits x = test x true
 
--- where none is found no byte passes
-none_passes : (p : ℕ → Bool) (xs : List ℕ) (k : ℕ) → position p xs ≡ None → k < length xs → p (get_or xs k 0) ≡ false
-none_passes p xs k h l =
-    elim (cases_lt (position_or_len p xs) (length xs)) [
-      | inl lt ↦ absurd (none-some (position_or_len p xs) (sym h ∙ cond-true _ (Some (position_or_len p xs)) None (lt-ltb (position_or_len p xs) (length xs) lt)))
-      | inr le ↦ before_first p xs k (omega arith)
-    ]
-
-false_not : (t : Bool) → not t ≡ false → t ≡ true
-false_not true h = refl
-false_not false h = absurd (true≢false h)
-
-module _ (p : ℕ → Bool) (s : List ℕ) (from : ℕ) where
   rest_is : between from (length s) s ≡ drop from s
   rest_is = take_all (length s - from) (drop from s) (omega (arith, length-drop from s))
 
-  there : (k : ℕ) → from ≤ k → get_or (drop from s) (k - from) 0 ≡ get_or s k 0
-  there k lo = let e : from + (k - from) ≡ k = omega arith in get_or-drop from s (k - from) 0 ∙ ap (λ (i : ℕ). get_or s i 0) e
+  there : (k : ℕ) → from ≤ k → get_or (between from (length s) s) (k - from) 0 ≡ get_or s k 0
+  there k lo =
+      let e : from + (k - from) ≡ k = omega arith in
+      ap (λ l. get_or l (k - from) 0) rest_is ∙ get_or-drop from s (k - from) 0 ∙ ap (λ (i : ℕ). get_or s i 0) e
 
-  -- the bytes between the beginning of a search and where it ends
-  pub some_at : (k : ℕ) → position p (between from (length s) s) ≡ Some k → from ≤ length s
-      → (from + k < length s) × (p (get_or s (from + k) 0) ≡ true) × ((i : ℕ) → from ≤ i → i < from + k → p (get_or s i 0) ≡ false)
-  some_at k h le =
-      let t = position-Some p (drop from s) k 0 (ap (position p) (sym rest_is) ∙ h) in (
-        omega (arith, t.0, length-drop from s),
-        ap p (sym (get_or-drop from s k 0)) ∙ t.1,
-        λ i lo hi. ap p (sym (there i lo)) ∙ t.2 (i - from) (omega arith),
-      )
+  size_is : length (between from (length s) s) ≡ length s - from
+  size_is = ap length rest_is ∙ length-drop from s
 
-  pub none_at_all : position p (between from (length s) s) ≡ None → (i : ℕ) → from ≤ i → i < length s → p (get_or s i 0) ≡ false
-  none_at_all h i lo hi = ap p (sym (there i lo)) ∙ none_passes p (drop from s) (i - from) (ap (position p) (sym rest_is) ∙ h) (omega (arith, length-drop from s))
+  -- no byte of the rest before place n passes
+  none_before : (n : ℕ) → AllWithin Fails (between from (length s) s) 0 n → (k : ℕ) → from ≤ k → k < from + n → Fails (get_or s k 0)
+  none_before n h k lo hi = subst Fails (there k lo) (h (k - from) 0 (omega arith) (omega arith))
 
-pub found : (s : List ℕ) (from b k : ℕ) → from ≤ length s → position (λ x. x == b) (between from (length s) s) ≡ Some k → Finds s from b (from + k)
-found s from b k le h =
-    let t = some_at (λ x. x == b) s from k h le in
-    record {
-      low = omega arith;
-      within = omega (arith, t.0);
-      before = λ i lo hi e. eqb-false _ _ (t.2 i lo hi) e;
-      found = λ _. eqb-true _ _ t.1;
-    }
+  -- what a search in the rest answers
+  abbrev Answer : Option ℕ → Type 0
+  Answer r =
+      let rest = between from (length s) s in
+      MatchOption r (AllWithin Fails rest 0 (length rest)) (λ k. (k < length rest) × HoldsAt Hits rest k × AllWithin Fails rest 0 k)
 
-pub not_found : (s : List ℕ) (from b : ℕ) → from ≤ length s → position (λ x. x == b) (between from (length s) s) ≡ None → Finds s from b (length s)
-not_found s from b le h =
-    record {
-      low = le;
-      within = omega arith;
-      before = λ i lo hi e. eqb-false _ _ (none_at_all (λ x. x == b) s from h i lo hi) e;
-      found = λ l. absurd (omega arith);
-    }
+  pub stops_there : (r : Option ℕ) (k : ℕ) → r ≡ Some k → Answer r → Stops test s from (from + k)
+  stops_there r k e a =
+      let h = subst Answer e a in
+      let z : from + k - from ≡ k = omega arith in
+      record {
+        low = omega arith;
+        within = omega (arith, h.0, size_is);
+        before = none_before k h.2;
+        stops = λ _. subst Hits (ap (λ (j : ℕ). get_or (between from (length s) s) j 0) (sym z) ∙ there (from + k) (omega arith)) (h.1 0);
+      }
 
-pub passed : (s : List ℕ) (from k : ℕ) → from ≤ length s → position (λ x. not (is_break x)) (between from (length s) s) ≡ Some k → Passes s from (from + k)
-passed s from k le h =
-    let t = some_at (λ x. not (is_break x)) s from k h le in
-    record {
-      low = omega arith;
-      within = omega (arith, t.0);
-      before = λ i lo hi. false_not _ (t.2 i lo hi);
-      stops = λ _ e. true≢false (sym e ∙ not-true _ t.1);
-    }
+  pub stops_nowhere : (r : Option ℕ) → r ≡ None → Answer r → Stops test s from (length s)
+  stops_nowhere r e a =
+      record {
+        low = le;
+        within = omega arith;
+        before = λ k lo hi. none_before _ (subst Answer e a) k lo (omega (arith, size_is));
+        stops = λ l. absurd (omega arith);
+      }
 
-pub all_passed : (s : List ℕ) (from : ℕ) → from ≤ length s → position (λ x. not (is_break x)) (between from (length s) s) ≡ None → Passes s from (length s)
-all_passed s from le h =
-    record {
-      low = le;
-      within = omega arith;
-      before = λ i lo hi. false_not _ (none_at_all (λ x. not (is_break x)) s from h i lo hi);
-      stops = λ l e. absurd (omega arith);
-    }
+false_not : (t : Bool) → false ≡ not t → t ≡ true
+false_not true h = refl
+false_not false h = absurd (true≢false (sym h))
+
+module _ {P : ℕ → Bool → Type 0} (s : List ℕ) (from r : ℕ) where
+  -- a search for a byte
+  pub found : (b : ℕ) → ((x : ℕ) (t : Bool) → P x t → t ≡ (x == b)) → Stops P s from r → Finds s from b r
+  found b is h =
+      record {
+        low = h.low;
+        within = h.within;
+        before = λ k lo hi. eqb-false _ _ (sym (is _ false (h.before k lo hi)));
+        found = λ l. eqb-true _ _ (sym (is _ true (h.stops l)));
+      }
+
+  -- a search for what is no line break
+  pub passed : ((x : ℕ) (t : Bool) → P x t → t ≡ not (is_break x)) → Stops P s from r → Passes s from r
+  passed is h =
+      record {
+        low = h.low;
+        within = h.within;
+        before = λ k lo hi. false_not _ (is _ false (h.before k lo hi));
+        stops = λ l e. true≢false (is _ true (h.stops l) ∙ ap not e);
+      }

@@ -1,5 +1,7 @@
 -- An element that is handed out by its numbers.
-use Rattle.std.proofs.Common.{◌≡◌, ℕ, ◌+◌, ◌≤◌, ◌≢◌, List, [], length, Some, None, Option, sym, ap, ◌∙◌, MatchOption}
+use Rattle.std.proofs.Common.{◌≡◌, ℕ, ◌+◌, ◌≤◌, ◌≢◌, List, [], length, Some, None, Option, Ok, Err, Result, sym, ap, ◌∙◌, subst, MatchOption, MatchResult}
+use Rattle.std.proofs.lemmas.Option.{none-some}
+use Rattle.std.specs.Result.{result_ok}
 use Rattle.std.specs.List.{between}
 use Rattle.x12.specs.Lists.{nth}
 use Rattle.x12.specs.Header.{separator_of, Sound}
@@ -10,6 +12,15 @@ use Rattle.x12.proofs.Picks.{part_within}
 -- where the segment is absent there is no element
 pub no_segment : (I : List ℕ) (k n : ℕ) → nth (segments_of I) k ≡ None → element_of I k n ≡ []
 no_segment I k n h = ap (λ (o : Option Segment). (element_at (separator_of I) o n).1) h
+
+-- an answer that is nothing
+pub at_none : {E P : Type 0} (Q : E → Type 0) (r : Option E) → r ≡ None → P → MatchOption r P Q
+at_none {P = P} Q r e p = subst (λ o. MatchOption o P Q) (sym e) p
+
+-- what is said of a result that went on by `ok`
+pub from_ok : {X F : Type 0} (P : X → Type 0) (Q : F → Type 0) (r : Result X F) (x : X) → result_ok r ≡ Some x → MatchResult r P Q → P x
+from_ok P Q (Ok y) x e h = subst (λ o. MatchOption o ⊥ P) e h
+from_ok P Q (Err f) x e h = absurd (none-some x e)
 
 -- what a segment hands out, the interchange does
 pub handed_out : (I : List ℕ) (k n separator : ℕ) (s : Segment) → Sound I → separator ≡ separator_of I → nth (segments_of I) k ≡ Some s

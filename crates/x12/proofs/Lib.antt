@@ -4,6 +4,7 @@ pub mod Hands
 pub mod Headers
 pub mod Judged
 pub mod Meets
+pub mod Nth
 pub mod Picks
 pub mod Rank
 pub mod SegmentFaults

@@ -1,43 +1,10 @@
--- One part, or one segment, picked by its number.
-use Rattle.std.proofs.Common.{◌≡◌, ℕ, zero, suc, ◌+◌, ◌-◌, ◌<◌, ◌≤◌, List, [], ◌∷◌, length, take, drop, Some, None, ◌⊎◌, sym, refl, ap, ◌∙◌, inl, inr, arith}
+-- A part of a list of bytes, with its place.
+use Rattle.std.proofs.Common.{◌≡◌, ℕ, ◌+◌, ◌-◌, ◌≤◌, List, length, take, drop, sym, ap, ◌∙◌, arith}
 use Rattle.std.proofs.lemmas.List.Edits.{length-between}
 use Rattle.std.proofs.lemmas.List.{drop-drop, take-take}
 use Rattle.std.proofs.lemmas.Slice.{between_is}
-use Rattle.std.proofs.lemmas.Bool.{cases_order}
 use Rattle.std.specs.List.{between}
-use Rattle.x12.specs.Lists.{nth}
 use Rattle.x12.specs.Elements.{PartOf}
-
--- the segment with a number: the first of a list has the number 1
-pub nth_first : {A : Type 0} (x : A) (xs ys : List A) (k : ℕ) → ys ≡ x ∷ xs → k ≡ 1 → nth ys k ≡ Some x
-nth_first x xs ys k e z = ap (nth ys) z ∙ ap (λ l. nth l 1) e
-
-pub nth_later : {A : Type 0} (x : A) (xs ys : List A) (k : ℕ) → ys ≡ x ∷ xs → 1 < k → nth ys k ≡ nth xs (k - 1)
-nth_later x xs ys zero e lt = absurd (omega arith)
-nth_later x xs ys (suc zero) e lt = absurd (omega arith)
-nth_later x xs ys (suc (suc k)) e lt = let z : suc k ≡ suc (suc k) - 1 = omega arith in ap (λ l. nth l (suc (suc k))) e ∙ ap (nth xs) z
-
-pub cases_zero : (k n : ℕ) → n ≡ 0 → (k ≡ 0) ⊎ (n < k)
-cases_zero zero n e = inl refl
-cases_zero (suc k) n e = inr (omega arith)
-
-nth_zero : {A : Type 0} (xs : List A) → nth xs 0 ≡ None
-nth_zero [] = refl
-nth_zero (x ∷ xs) = refl
-
--- one turn of a walk that looks for the segment with number k and is behind n others; there is none with the number 0
-pub nth_next : {A : Type 0} (x : A) (xs ys : List A) (k n m : ℕ) → ys ≡ x ∷ xs → m ≡ suc n → (k ≡ 0) ⊎ (n < k) → (m ≡ k → ⊥)
-    → ((k ≡ 0) ⊎ (m < k)) × (nth ys (k - n) ≡ nth xs (k - m))
-nth_next x xs ys k n m e q (inl z) other =
-    let a : k - n ≡ 0 = omega arith in
-    let b : k - m ≡ 0 = omega arith in
-    (inl z, ap (nth ys) a ∙ nth_zero ys ∙ sym (ap (nth xs) b ∙ nth_zero xs))
-nth_next x xs ys k n m e q (inr lt) other =
-    elim (cases_order m k) [
-      | inl same ↦ absurd (other same)
-      | inr (inl less) ↦ (inr less, nth_later x xs ys (k - n) e (omega arith) ∙ (let z : k - n - 1 ≡ k - m = omega arith in ap (nth xs) z))
-      | inr (inr more) ↦ absurd (omega arith)
-    ]
 
 -- a part of a whole, and a part of that part
 pub part_of : (xs : List ℕ) (p at e : ℕ) → at ≤ e → e ≤ length xs → PartOf xs p (p + at) (between at e xs)

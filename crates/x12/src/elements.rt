@@ -66,17 +66,12 @@ impl<'a> Segment<'a> {
         ensures { (element_of_segment self.now.separator (plain self.now) number ≡ (result.place, result.bytes.now))
             × PartOf self.now.bytes.now self.now.place result.place result.bytes.now × (result.number ≡ number) }
     {
-        for element in self.elements() {
-            if element.number == number {
-                return element;
-            }
-        }
         let end = self.bytes.len();
-        Element {
+        self.elements().nth(number).unwrap_or(Element {
             number,
             place: self.place + end,
             bytes: &self.bytes[end..],
-        }
+        })
     }
 
     // An element of the segment, by its number and its place.
@@ -120,13 +115,7 @@ pub fn element<'a>(interchange: &'a [u8], segment: usize, number: usize) -> Opti
         (Sound interchange.now → element_of interchange.now segment number ≡ [])
         (λ e. HandedOut interchange.now segment number e.place e.bytes.now) }
 {
-    let Ok(read) = Interchange::read(interchange) else {
-        return None;
-    };
-    for found in read.segments() {
-        if found.number == segment {
-            return found.element(number);
-        }
-    }
-    None
+    let read = Interchange::read(interchange).ok()?;
+    let found = read.segments().nth(segment.checked_sub(1)?)?;
+    found.element(number)
 }

@@ -1,13 +1,17 @@
-ghost use Rattle.std.specs.Prelude.{◌≡◌, ◌≤◌, not, ◌==◌, length};
-ghost use Rattle.std.specs.List.{position};
-ghost use Rattle.x12.specs.Find.{Finds, Passes};
+ghost use Rattle.std.specs.Prelude.{◌≡◌, ◌≤◌, length};
+ghost use Rattle.x12.specs.Find.{Finds, Passes, Stops};
 ghost use Rattle.x12.specs.Segments.{is_break};
 
-// The first place that holds `b`, if one does.
-fn position_of(s: &[u8], b: u8) -> Option<usize>
-    ensures { result ≡ position (λ x. x == b) s.now }
+// The first place from `from` on whose byte passes the test, or the length.
+fn first_from<P: Fn(u8) -> bool>(s: &[u8], from: usize, test: P) -> usize
+    requires place { from ≤ length s.now }
+    requires callable { P.IsAlwaysCallable test }
+    ensures { Stops (P.post test) s.now from result }
 {
-    s.iter().position(|x| *x == b)
+    match s[from..].iter().position(|x| test(*x)) {
+        Some(k) => from + k,
+        None => s.len(),
+    }
 }
 
 // The first place from `from` on that holds `b`, or the length.
@@ -15,10 +19,7 @@ pub fn find_from(s: &[u8], from: usize, b: u8) -> usize
     requires { from ≤ length s.now }
     ensures { Finds s.now from b result }
 {
-    match position_of(&s[from..], b) {
-        Some(k) => from + k,
-        None => s.len(),
-    }
+    first_from(s, from, |x| x == b)
 }
 
 // Whether the byte is a line break.
@@ -28,20 +29,10 @@ fn is_line_break(b: u8) -> bool
     b == 13 || b == 10
 }
 
-// The first place that holds no line break, if one does.
-fn position_of_text(s: &[u8]) -> Option<usize>
-    ensures { result ≡ position (λ x. not (is_break x)) s.now }
-{
-    s.iter().position(|x| !is_line_break(*x))
-}
-
 // The first place from `from` on that holds no line break, or the length.
 pub(crate) fn skip_breaks(s: &[u8], from: usize) -> usize
     requires { from ≤ length s.now }
     ensures { Passes s.now from result }
 {
-    match position_of_text(&s[from..]) {
-        Some(k) => from + k,
-        None => s.len(),
-    }
+    first_from(s, from, |x| !is_line_break(x))
 }

@@ -1,7 +1,7 @@
-ghost use Rattle.std.specs.Prelude.{◌≡◌, ◌≤◌, true, length, take, Ok, Err, MatchResult};
+ghost use Rattle.std.specs.Prelude.{◌≡◌, ◌≤◌, length, take, Ok, Err, MatchResult};
 ghost use Rattle.std.specs.List.{list_all, enumerate_from};
 ghost use Rattle.x12.specs.Lists.{among};
-ghost use Rattle.x12.specs.Header.{separator_of, component_of, terminator_of, separator_places, named, placed, layout_holds, delimited};
+ghost use Rattle.x12.specs.Header.{separator_of, component_of, terminator_of, separator_places, named, placed, layout_holds};
 ghost use Rattle.x12.specs.Causes.{cause_of};
 ghost use Rattle.x12.specs.Checks.{header_check};
 
@@ -21,10 +21,9 @@ fn is_separator_place(i: usize) -> bool
 
 // Whether the interchange begins with ISA.
 fn is_named(interchange: &[u8]) -> bool
-    requires { 106 ≤ length interchange.now }
     ensures { result ≡ named interchange.now }
 {
-    interchange[0] == b'I' && interchange[1] == b'S' && interchange[2] == b'A'
+    interchange.starts_with(b"ISA")
 }
 
 // Whether byte `b` may stand at place `i` of the header, before the terminator.

@@ -1,42 +1,44 @@
-use Rattle.std.proofs.Common.{◌≡◌, ◌+◌, ◌-◌, length, sym, ap, ◌∙◌, subst, arith, rules}
+use Rattle.std.proofs.Common.{◌≡◌, ◌+◌, sym, ap, ◌∙◌, arith, rules}
+use Rattle.std.proofs.lemmas.Option.{MatchOption-at_some, MatchOption-at_none}
 use Rattle.x12.specs.declared.parts.Element.{Element}
-use Rattle.x12.specs.Causes.{cause_of}
 use Rattle.x12.specs.Lists.{nth}
-use Rattle.x12.specs.Segments.{segments_from, FirstFrom}
+use Rattle.x12.specs.Segments.{segments_of}
 use Rattle.x12.specs.Views.{plain}
-use Rattle.x12.proofs.Hands.{handed_out}
-use Rattle.x12.proofs.Headers.{never_ok, check_sound, sound_check}
-use Rattle.x12.proofs.Picks.{nth_first, nth_next}
-use Rattle.x12.proofs.Walks.{turn}
+use Rattle.x12.proofs.Hands.{at_none, from_ok, no_segment, handed_out}
+use Rattle.x12.proofs.Headers.{check_sound, sound_check}
+use Rattle.x12.proofs.Nth.{nth_of_all, nth_zero}
 use Rattle.x12.proofs.elements.element.Goals as goal
 
-pub returns-in_default : goal.returns-in_default
-returns-in_default c s = absurd (never_ok (cause_of c.in_default.field-0) tt (sym c.in_default.ensures ∙ sound_check c.args.interchange.now s))
+pub returns-in_err-read : goal.returns-in_err-read
+returns-in_err-read c = at_none _ c.from_residual.result c.from_residual.ensures (λ s. absurd (let e = sound_check c.args.interchange.now s in search rules))
 
-pub returns-then-found-segment : goal.returns-then-found-segment
-returns-then-found-segment c =
+pub returns-in_err-checked_sub : goal.returns-in_err-checked_sub
+returns-in_err-checked_sub c =
     let I = c.args.interchange.now in
-    let it = c.loop-found.found-iterator in
-    let z = c.into_iter-found-iterator.result.interchange in
-    let q : z ≡ c.in-Ok.read = search rules in
-    let h = c.in-Ok.ensures in
-    let x = c.in-Some.found in
-    let k = turn z it c.loop-found.invariant.0 x c.next.new.self c.in-Some.ensures.steps in
-    let one : c.args.segment - it.count ≡ 1 = omega (arith, k.numbered, c.if-found-segment.true) in
-    let p : z.bytes.now ≡ c.args.interchange.now = ap (λ y. y.bytes.now) q ∙ h.0 in
-    let f = subst (λ l. FirstFrom l z.delimiters.terminator it.at x.place x.bytes.now x.closed) p k.first in
-    handed_out c.args.interchange.now c.args.segment c.args.number x.separator (plain x) (check_sound c.args.interchange.now tt h.1)
-    (k.separated ∙ ap (λ y. y.delimiters.separator) q ∙ h.2)
-    (c.loop-found.invariant.2 ∙ nth_first (plain x) (segments_from z.delimiters.terminator (x.place + length x.bytes.now + 1) z.bytes.now) (segments_from z.delimiters.terminator it.at z.bytes.now) (c.args.segment - it.count) k.first.next one)
-    f.inside f.part
-    (λ (e : Element). e.place) (λ (e : Element). e.bytes.now) c.element.result c.element.ensures
+    let z : c.args.segment ≡ 0 = omega (arith, c.in_err-checked_sub.ensures) in
+    at_none _ c.from_residual-in_err-checked_sub.result c.from_residual-in_err-checked_sub.ensures
+    (λ s. no_segment I c.args.segment c.args.number (ap (nth (segments_of I)) z ∙ nth_zero (segments_of I)))
 
-pub loop-found-preserved : goal.loop-found-preserved
-loop-found-preserved c =
-    let it = c.loop-found.found-iterator in
-    let z = c.into_iter-found-iterator.result.interchange in
-    let x = c.in-Some.found in
-    let k = turn z it c.loop-found.invariant.0 x c.next.new.self c.in-Some.ensures.steps in
-    let n = nth_next (plain x) (segments_from z.delimiters.terminator (x.place + length x.bytes.now + 1) z.bytes.now) (segments_from z.delimiters.terminator it.at z.bytes.now) c.args.segment it.count c.next.new.self.count
-    k.first.next (k.counted ∙ k.numbered) c.loop-found.invariant.1 (λ e. c.if-found-segment.false (sym k.counted ∙ e)) in
-    (k.on, n.0, c.loop-found.invariant.2 ∙ n.1 ∙ (λ i. nth (segments_from z.delimiters.terminator (sym k.behind i) z.bytes.now) (c.args.segment - c.next.new.self.count)))
+pub returns-in_err-found : goal.returns-in_err-found
+returns-in_err-found c =
+    let I = c.args.interchange.now in
+    let read = c.in_ok-read.read in
+    let h = from_ok _ _ c.read.result read (sym c.ok.ensures.value ∙ c.in_ok-read.was) c.read.ensures in
+    let n = c.in_ok-checked_sub.field-0 in
+    let k : n + 1 ≡ c.args.segment = omega (arith, c.in_ok-checked_sub.ensures) in
+    let m = nth_of_all I c.args.segment read n _ c.nth.result c.nth.new.self (search rules) h.0 h.4 k c.nth.ensures.ran in
+    at_none _ c.from_residual-in_err-found.result c.from_residual-in_err-found.ensures
+    (λ s. no_segment I c.args.segment c.args.number (MatchOption-at_none _ _ c.in_err-found.was m))
+
+pub returns : goal.returns
+returns c =
+    let I = c.args.interchange.now in
+    let read = c.in_ok-read.read in
+    let h = from_ok _ _ c.read.result read (sym c.ok.ensures.value ∙ c.in_ok-read.was) c.read.ensures in
+    let n = c.in_ok-checked_sub.field-0 in
+    let k : n + 1 ≡ c.args.segment = omega (arith, c.in_ok-checked_sub.ensures) in
+    let m = nth_of_all I c.args.segment read n _ c.nth.result c.nth.new.self (search rules) h.0 h.4 k c.nth.ensures.ran in
+    let x = c.in_ok-found.found in
+    let f = MatchOption-at_some _ _ x c.in_ok-found.was m in
+    handed_out I c.args.segment c.args.number x.separator (plain x) (check_sound I tt h.1) (f.1 ∙ h.2) f.0 f.2 f.3
+    (λ (e : Element). e.place) (λ (e : Element). e.bytes.now) c.element.result c.element.ensures
