@@ -1,7 +1,8 @@
 -- Loops are given their numbers, one segment after the other.
-use Rattle.std.proofs.Common.{◌≡◌, ℕ, suc, ◌+◌, ◌<◌, ◌≤◌, Bool, true, false, cond, eqb, ◌⊎◌, List, [], ◌∷◌, ◌++◌, map, length, get_or, take, drop, set, MatchBool, sym, refl, ap, ◌∙◌, subst, inl, inr, add-one, arith, length-append}
+use Rattle.std.proofs.Common.{◌≡◌, ℕ, suc, ◌+◌, ◌<◌, ◌≤◌, Bool, true, false, cond, eqb, ◌⊎◌, List, [], ◌∷◌, ◌++◌, map, length, Some, None, Option, get_or, take, drop, set, MatchBool, MatchOption, Bor, sym, refl, ap, ◌∙◌, subst, inl, inr, add-one, arith, length-append}
 use Rattle.std.proofs.lemmas.List.{set_at, get_or_at, take_at, drop_at, drop_more, length_push, append_assoc, append-nil, length-map, length-take-le, map-append, take-append-drop}
 use Rattle.std.proofs.lemmas.Bool.{eqb-true, eqb-false, cond-true, cond-false}
+use Rattle.std.specs.Slice.{IsItemAt}
 use Rattle.grammar.specs.Derivations.{Spot}
 use Rattle.placing.specs.Placed.{PlacedSegment, spots_in}
 use Rattle.results.specs.declared.rows.SegmentRow.{SegmentRow}
@@ -18,29 +19,25 @@ abbrev pub no_segment : SegmentRow
 no_segment = record { place = 0; length = 0; row = 0; around = 0 }
 
 -- a row within the table is that of the segment's loop, or no row at this index is
-pub row_opened : (loops : List LoopRow) (next number : ℕ) → next < length loops
-    → MatchBool (eqb (get_or loops next no_loop).opening number) (OpenedAt loops next number) (OpenedAt loops next number → ⊥)
-row_opened loops next number l = go (eqb x number) refl
+row_opened : (loops : List LoopRow) (next number : ℕ) (x : LoopRow) → next < length loops → x ≡ get_or loops next x → (b : Bool) → b ≡ eqb x.opening number
+    → MatchBool b (OpenedAt loops next number) (OpenedAt loops next number → ⊥)
+row_opened loops next number x l same true e =
+    (take next loops, x, drop (next + 1) loops, there, length-take-le next loops (omega arith), eqb-true x.opening number (sym e))
   where
-    x : ℕ
-    x = (get_or loops next no_loop).opening
-
-    there : loops ≡ take next loops ++ (get_or loops next no_loop ∷ drop (next + 1) loops)
-    there = sym (take-append-drop next loops) ∙ ap (λ (t : List LoopRow). take next loops ++ t) (drop_more loops next no_loop l)
-
-    many : length (take next loops) ≡ next
-    many = length-take-le next loops (omega arith)
-
-    go : (b : Bool) → eqb (get_or loops next no_loop).opening number ≡ b → MatchBool b (OpenedAt loops next number) (OpenedAt loops next number → ⊥)
-    go true e = (take next loops, get_or loops next no_loop, drop (next + 1) loops, there, many, eqb-true (get_or loops next no_loop).opening number e)
-    go false e = λ (front, y, behind, s, m, o). eqb-false (get_or loops next no_loop).opening number e (ap (λ (t : List LoopRow). (get_or t next no_loop).opening) s ∙ ap (λ (y : LoopRow). y.opening) (get_or_at front y behind no_loop next m) ∙ o)
+    there : loops ≡ take next loops ++ (x ∷ drop (next + 1) loops)
+    there = sym (take-append-drop next loops) ∙ ap (λ (t : List LoopRow). take next loops ++ t) (drop_more loops next x l ∙ ap (λ (y : LoopRow). y ∷ drop (next + 1) loops) (sym same))
+row_opened loops next number x l same false e = λ (front, y, behind, s, m, o).
+    eqb-false x.opening number (sym e) (ap (λ (z : LoopRow). z.opening) (same ∙ ap (λ (t : List LoopRow). get_or t next x) s ∙ get_or_at front y behind x next m) ∙ o)
 
 -- no row behind the table is
-pub none_opened : (loops : List LoopRow) (next number : ℕ) → length loops ≤ next → OpenedAt loops next number → ⊥
+none_opened : (loops : List LoopRow) (next number : ℕ) → length loops ≤ next → OpenedAt loops next number → ⊥
 none_opened loops next number l (front, y, behind, s, m, o) = let e = ap length s ∙ length-append front (y ∷ behind) in omega arith
 
-pub opened_within : (loops : List LoopRow) (next number : ℕ) → OpenedAt loops next number → next < length loops
-opened_within loops next number (front, y, behind, s, m, o) = let e = ap length s ∙ length-append front (y ∷ behind) in omega arith
+-- the row at this index, if there is one, says whether it is that of the segment's loop
+pub opened_there : (loops : List LoopRow) (next number : ℕ) (r : Option (Bor LoopRow)) (b : Bool) → IsItemAt loops next r → MatchOption r (b ≡ false) (λ x. b ≡ eqb x.now.opening number)
+    → MatchBool b (OpenedAt loops next number) (OpenedAt loops next number → ⊥)
+opened_there loops next number None b item e = subst (λ (x : Bool). MatchBool x (OpenedAt loops next number) (OpenedAt loops next number → ⊥)) (sym e) (none_opened loops next number item.3)
+opened_there loops next number (Some x) b item e = row_opened loops next number x.now item.3.0 item.1 b e
 
 -- the loops of later segments are opened later
 pub opened_later : (k : ℕ) (z : List PlacedSegment) (l : LoopRow) (more : List LoopRow) → each_loop closed_row k z ≡ l ∷ more → k ≤ l.opening

@@ -1,5 +1,5 @@
 -- The rows are written, one segment after the other.
-use Rattle.std.proofs.Common.{◌≡◌, ℕ, suc, ◌+◌, ◌<◌, List, [], ◌∷◌, ◌++◌, length, drop, set, Some, None, sym, refl, ap, ◌∙◌, subst, arith, length-append}
+use Rattle.std.proofs.Common.{◌≡◌, ℕ, suc, ◌+◌, ◌<◌, ◌≤◌, List, [], ◌∷◌, ◌++◌, length, drop, set, Some, None, sym, refl, ap, ◌∙◌, subst, arith, length-append}
 use Rattle.std.proofs.lemmas.List.{append_assoc, append-nil, length-map, length_push, map-append}
 use Rattle.x12.specs.Header.{separator_of}
 use Rattle.x12.specs.Segments.{Segment, segments_of, segments_from}
@@ -92,24 +92,35 @@ module _ (m : Meaning) (I : List ℕ) (t x : ℕ) (z : List PlacedSegment) (old 
 
 module _ {m : Meaning} {I : List ℕ} {t x : ℕ} {z : List PlacedSegment} {old : List SegmentRow} {old_loops : List LoopRow} {at count opened : ℕ} {placer : Placer} {segments : List SegmentRow} {loops : List LoopRow}
     (fit : Fitting m I t x (length old) (length old_loops) z) (w : Writes m I t x z old old_loops at count opened placer segments loops) where
-  -- no segment is left: the rows are those of z
+  -- all of z is done: the rows are its rows
+  done_all : w.rest ≡ [] → Begun z old old_loops segments loops (record { segments = count; loops = opened })
+  done_all e =
+      let d : z ≡ w.done = w.split ∙ ap (λ (l : List PlacedSegment). w.done ++ l) e ∙ append-nil w.done in
+      let r : open_rows z ≡ w.front = w.all_loops ∙ ap (λ (l : List PlacedSegment). w.front ++ each_loop open_row (suc count) l) e ∙ append-nil w.front in
+      let n : count ≡ length z = sym w.many ∙ ap length (sym d) in
+      let k : opened ≡ loops_in z = sym w.written ∙ ap length (sym r) ∙ length_each_loop open_row 1 z in
+      record {
+        many = n;
+        loops_many = k;
+        segments_are = w.segments_are ∙ (λ j. named_rows (sym d j) ++ drop (n j) old);
+        loops_are = w.loops_are ∙ (λ j. sym r j ++ drop (k j) old_loops);
+      }
+
+  -- no segment is left
   pub all_written : segments_from t at I ≡ [] → Begun z old old_loops segments loops (record { segments = count; loops = opened })
-  all_written e = go w.rest (w.ahead ∙ e) w.split w.all_loops
+  all_written e = done_all (none_left w.rest (w.ahead ∙ e))
     where
-      go : (rest : List PlacedSegment) → segments_in rest ≡ [] → z ≡ w.done ++ rest → open_rows z ≡ w.front ++ each_loop open_row (suc count) rest
-          → Begun z old old_loops segments loops (record { segments = count; loops = opened })
-      go (p ∷ after) e a b = absurd (never_empty p.0 (segments_in after) (sym e))
-      go [] e a b =
-          let d : z ≡ w.done = a ∙ append-nil w.done in
-          let r : open_rows z ≡ w.front = b ∙ append-nil w.front in
-          let n : count ≡ length z = sym w.many ∙ ap length (sym d) in
-          let k : opened ≡ loops_in z = sym w.written ∙ ap length (sym r) ∙ length_each_loop open_row 1 z in
-          record {
-            many = n;
-            loops_many = k;
-            segments_are = w.segments_are ∙ (λ j. named_rows (sym d j) ++ drop (n j) old);
-            loops_are = w.loops_are ∙ (λ j. sym r j ++ drop (k j) old_loops);
-          }
+      none_left : (rest : List PlacedSegment) → segments_in rest ≡ [] → rest ≡ []
+      none_left [] e = refl
+      none_left (p ∷ after) e = absurd (never_empty p.0 (segments_in after) (sym e))
+
+  -- no row is left, and so no segment is
+  pub filled_up : length old ≤ count → Begun z old old_loops segments loops (record { segments = count; loops = opened })
+  filled_up l = done_all (none_left w.rest (let n = ap length w.split ∙ length-append w.done w.rest in let d = w.many in let r = fit.room in omega (arith, l)))
+    where
+      none_left : (rest : List PlacedSegment) → length rest ≤ 0 → rest ≡ []
+      none_left [] l = refl
+      none_left (p ∷ after) l = absurd (omega (arith, l))
 
   -- the next segment of z
   pub record Next (s : Segment) (more : List Segment) : Type 0 where
@@ -132,7 +143,7 @@ module _ {m : Meaning} {I : List ℕ} {t x : ℕ} {z : List PlacedSegment} {old 
     n = next_of s more next
 
     -- there is room for it
-    pub has_row_lem : count < length old
+    has_row_lem : count < length old
     has_row_lem = let l = ap length n.split ∙ length-append w.done (n.this ∷ n.after) in let d = w.many in let r = fit.room in omega arith
 
     number : count + 1 ≡ suc (length (marks_in x (segments_in w.done)))

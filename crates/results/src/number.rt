@@ -21,7 +21,7 @@ fn loop_at(segments: &[SegmentRow], opening: usize) -> usize
 fn opens(loops: &[LoopRow], next: usize, number: usize) -> bool
     ensures { MatchBool result (OpenedAt loops.now next number) (OpenedAt loops.now next number → ⊥) }
 {
-    next < loops.len() && loops[next].opening == number
+    loops.get(next).is_some_and(|row| row.opening == number)
 }
 
 // Gives every loop its number in place of its opening segment. It counts by index, since each turn writes one row and reads an earlier one, which no

@@ -71,16 +71,20 @@ pub(crate) fn write_rows<G: Guide>(
         segments: 0,
         loops: 0,
     };
-    for segment in interchange.segments() {
-        if counts.segments >= segments.len() {
-            return counts;
-        }
-        let Some(placed) = placer.place(guide, segment.number, mark_of(&segment)) else {
-            return counts;
+    // Two iterators side by side: the check does not cover a zip of segments, which have a ghost field, with rows that are lent to be written.
+    let mut ahead = interchange.segments();
+    for row in segments.iter_mut() {
+        let Some(segment) = ahead.next() else {
+            break;
         };
-        segments[counts.segments] = named_row(&segment, placed);
-        counts.segments = segment.number;
-        counts.loops = open_loop(loops, counts.loops, segment.number, placed);
+        let Some(placed) = placer.place(guide, segment.number, mark_of(&segment)) else {
+            break;
+        };
+        *row = named_row(&segment, placed);
+        counts = Counts {
+            segments: segment.number,
+            loops: open_loop(loops, counts.loops, segment.number, placed),
+        };
     }
     counts
 }
