@@ -5,7 +5,7 @@ ghost use Rattle.elements.specs.Fails.{cause_of_element};
 use placing::faults::SegmentFault;
 use x12::faults::{Fault, Site};
 
-// The faults of bytes, structure and elements.
+// The faults of bytes, structure and elements. One that stands at the same element of every segment has no Site, since its kind says the element.
 #[derive(Clone, Copy, Debug, PartialEq, Eq)]
 pub enum ElementFault {
     Segment(SegmentFault),

@@ -4,7 +4,7 @@ ghost use Rattle.placing.specs.Structure.{cause_of_segment};
 
 use x12::faults::{ByteFault, Fault, Site};
 
-// The faults of bytes and of structure.
+// The faults of bytes and of structure. One that stands at the same element of every segment has no Site, since its kind says the element.
 #[derive(Clone, Copy, Debug, PartialEq, Eq)]
 pub enum SegmentFault {
     Bytes(ByteFault),

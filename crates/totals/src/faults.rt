@@ -8,7 +8,7 @@ use elements::faults::ElementFault;
 use placing::faults::SegmentFault;
 use x12::faults::{ByteFault, Fault, Site};
 
-// The faults of the layers 1 to 4.
+// The faults of the layers 1 to 4. One that stands at the same element of every segment has no Site, since its kind says the element.
 #[derive(Clone, Copy, Debug, PartialEq, Eq)]
 pub enum TotalsFault {
     Element(ElementFault),

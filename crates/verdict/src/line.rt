@@ -4,7 +4,7 @@ ghost use Rattle.verdict.specs.Line.{text_of};
 use arrayvec::ArrayString;
 
 // A line of text.
-#[derive(Clone, Copy)]
+#[derive(Clone, Copy, Debug, PartialEq, Eq)]
 pub struct Line {
     pub(crate) text: ArrayString<128>,
 }

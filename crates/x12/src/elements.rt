@@ -10,7 +10,7 @@ use crate::find::find_from;
 use crate::parts::{Element, Interchange, Segment};
 
 // The elements of a segment that are still to come: where the next begins, if there is one, and its number.
-#[derive(Clone, Copy)]
+#[derive(Clone, Copy, Debug, PartialEq, Eq)]
 pub struct Elements<'a> {
     pub segment: Segment<'a>,
     pub at: Option<usize>,

@@ -81,7 +81,7 @@ impl fmt::Display for Fault {
     }
 }
 
-// The faults of the byte layer.
+// The faults of the byte layer. One that stands at the same element of every segment has no Site, since its kind says the element.
 #[derive(Clone, Copy, Debug, PartialEq, Eq)]
 pub enum ByteFault {
     // The length lies outside 106 to 65,536.

@@ -26,7 +26,8 @@ fn is_named(interchange: &[u8]) -> bool
     interchange.starts_with(b"ISA")
 }
 
-// Whether byte `b` may stand at place `i` of the header, before the terminator.
+// Whether byte `b` may stand at place `i` of the header, before the terminator. The two delimiters are no Delimiters yet: those say of themselves that
+// they are of class 5, which is tested after this.
 fn is_placed(separator: u8, terminator: u8, i: usize, b: u8) -> bool
     ensures { result ≡ placed separator terminator i b }
 {

@@ -5,7 +5,7 @@ use crate::find::{find_from, skip_breaks};
 use crate::parts::{Interchange, Segment};
 
 // The segments of an interchange from byte `at` on, after `count` others.
-#[derive(Clone, Copy)]
+#[derive(Clone, Copy, Debug, PartialEq, Eq)]
 pub struct Segments<'a> {
     pub interchange: Interchange<'a>,
     pub at: usize,
