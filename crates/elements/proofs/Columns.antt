@@ -47,15 +47,6 @@ pub element_rising : (l k d e : ℕ) (f g : Fault) → d < e → LiesAt l k d f 
 element_rising l k d e f g h a b =
     moved f g (fault a.0 k d a.1) (fault b.0 k e b.1) a.4 b.4 (inr (a.2 ∙ sym b.2, inr (refl, inr (a.3 ∙ sym b.3, inl h))))
 
--- a lower layer ranks before a higher one
-pub layer_rising : (l m k d e : ℕ) (f g : Fault) → l < m → LiesAt l k d f → LiesAt m k e g → Before f g
-layer_rising l m k d e f g h a b =
-    moved f g (fault a.0 k d a.1) (fault b.0 k e b.1) a.4 b.4
-    (inr (a.2 ∙ sym b.2, inr (refl, inl (below (layer_of a.0) (layer_of b.0) a.3 b.3))))
-  where
-    below : (i j : ℕ) → i ≡ l → j ≡ m → i < j
-    below i j p q = subst₂ (λ (x : ℕ) (y : ℕ). x < y) (sym p) (sym q) h
-
 module _ (l k e place : ℕ) where
   later : (n : ℕ) (f : Fault) → phase n ≡ 0 → layer_of n ≡ l → f ≡ fault n k e place → (ts : List (Bool × ℕ)) → rising l ts ≡ true → all_above n ts ≡ true → (g : Fault) → Hits k e place ts g → Before f g
   later n f p q x [] s b g h = elim h [ ]

@@ -150,7 +150,8 @@ impl<'a, G: Guide> Subject<'a, G> {
     }
 }
 
-// The first fault of the elements of a segment, which has this row. `lacking` says that it ends a set that lacks a row.
+// The first fault of the elements of a segment, which has this row. `lacking` says that it ends a set that lacks a row; it
+// is the answer of the totals and has no value beside it.
 pub fn check_elements<G: Guide>(
     guide: &G,
     lacking: bool,

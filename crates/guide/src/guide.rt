@@ -36,7 +36,7 @@ pub trait Guide {
     fn paired(&self, n: u8, b: u8) -> bool
         ensures { result ≡ paired_to (meaning self.now) n b };
 
-    // What the first two elements of BAK make of a set.
+    // What the first two elements of BAK make of a set. They stay two values: nothing else asks for this pair.
     fn kind(&self, first: &[u8], second: &[u8]) -> Kind
         ensures { result ≡ (meaning self.now).kind first.now second.now };
 

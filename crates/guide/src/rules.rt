@@ -33,8 +33,9 @@ impl Rule {
     }
 }
 
-// A row of a guide: in how many loops it stands, how many rows the loop has that it opens (none: it opens no loop), its least and its
-// greatest use, the greatest number of an element that a rule or a pair rule names, and whether it has pair rules.
+// A row of a guide: in how many loops it stands, how many rows the loop has that it opens (0, as many as there are, where it opens no loop), its
+// least and its greatest use, the greatest number of an element that a rule or a pair rule names, and whether it has pair rules. These are asked one
+// by one, so the last is a flag and no list.
 #[derive(Clone, Copy, Debug, PartialEq, Eq)]
 pub struct Row {
     pub depth: u8,

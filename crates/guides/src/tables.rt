@@ -138,10 +138,7 @@ impl TableRow {
 fn row_in(rows: &'static [TableRow], n: u8) -> Option<&'static TableRow>
     ensures { option_copied result ≡ nth rows.now n }
 {
-    match n {
-        0 => None,
-        _ => rows.get(usize::from(n) - 1),
-    }
+    rows.get(usize::from(n).checked_sub(1)?)
 }
 
 // The row of the guide's table with this number.

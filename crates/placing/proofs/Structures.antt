@@ -57,9 +57,6 @@ module _ (m : Meaning) (I : List ℕ) where
       ap (marks_in (separator_of I)) e ∙ map-append (separator_of I) a (x ∷ rest) ∙ sym (append_assoc ms (k ∷ []) (marks_in (separator_of I) rest)) in
       f.1 (starts_less (ms ++ (k ∷ [])) (marks_in (separator_of I) rest) (subst Starts q st))
 
-  same_fault : {n k l p q : ℕ} → k ≡ l → p ≡ q → fault n k 0 p ≡ fault n l 0 q
-  same_fault {n = n} a b = (λ i. fault n (a i) 0 (b i))
-
   pub one_misfit : {n k p n' k' p' : ℕ} → Misfits m I n k p → Misfits m I n' k' p' → fault n k 0 p ≡ fault n' k' 0 p'
   one_misfit (no_row_takes a x u e f) (no_row_takes b y v e' f') =
       elim (parted a x u b y v (sym e ∙ e')) [

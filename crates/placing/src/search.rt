@@ -24,7 +24,8 @@ fn row_behind<G: Guide>(guide: &G, place: u8, depth: usize) -> Option<Row>
     Some(row)
 }
 
-// How often a row must and may be used, and whether it opens a loop.
+// How often a row must and may be used, and whether it opens a loop (a flag, since nothing more is asked of that). A row that the guide does not have
+// is never used; a Row for it would have to make up the rest.
 #[derive(Clone, Copy, Debug, PartialEq, Eq)]
 struct Uses {
     least: u32,

@@ -19,7 +19,8 @@ pub struct SetState {
     ghost whole: { length used ≡ 5 },
 }
 
-// The row that takes a segment: in how many rows it stands, how often it is used with this segment, and whether it opens a loop.
+// The row that takes a segment: in how many rows it stands, how often it is used with this segment, and whether it opens a loop,
+// which is named by the segment and so needs no value here.
 #[derive(Clone, Copy, Debug, PartialEq, Eq)]
 pub struct Choice {
     pub row: u8,

@@ -17,7 +17,7 @@ pub enum Turn {
     Nowhere,
 }
 
-// What the segment with this name does, from this phase on.
+// What the segment with this name does, from this phase on. See Placer::next_step for why it is told apart here.
 pub(crate) fn turn_of(phase: Phase, name: &[u8]) -> Turn
     ensures { result ≡ turn_of phase name.now }
 {

@@ -24,9 +24,6 @@ loops_in_push z p =
     let t : loops_from (1 + length z) (p ∷ []) ≡ cond (opens_at (suc (length z)) p) 1 0 + 0 = ap (λ (n : ℕ). loops_from n (p ∷ [])) s in
     omega arith
 
-pub length_segment_rows : (z : List PlacedSegment) → length (rows_of_segments z) ≡ length z
-length_segment_rows z = length-map z (segment_row z)
-
 one_row : (b : Bool) (l : LoopRow) (more : List LoopRow) (n : ℕ) → length more ≡ n → length (cond b (l ∷ more) more) ≡ cond b 1 0 + n
 one_row true l more n e = omega arith
 one_row false l more n e = omega arith
@@ -34,9 +31,6 @@ one_row false l more n e = omega arith
 pub length_each_loop : (row_of : ℕ → PlacedSegment → List PlacedSegment → LoopRow) (k : ℕ) (z : List PlacedSegment) → length (each_loop row_of k z) ≡ loops_from k z
 length_each_loop row_of k [] = refl
 length_each_loop row_of k (p ∷ after) = one_row (opens_at k p) (row_of k p after) (each_loop row_of (suc k) after) (loops_from (suc k) after) (length_each_loop row_of (suc k) after)
-
-pub length_loop_rows : (z : List PlacedSegment) → length (rows_of_loops z) ≡ loops_in z
-length_loop_rows z = length_each_loop (loop_row z) 1 z
 
 -- no more loops than segments
 pub loops_within : (k : ℕ) (z : List PlacedSegment) → loops_from k z ≤ length z

@@ -267,12 +267,3 @@ module _ (z : List PlacedSegment) (i opened : ℕ) (segments : List SegmentRow) 
           → Numbered z (i + 1) (opened + 1) (set segments i (in_loop (get_or segments i no_segment) (opened + 1))) (set loops opened (in_outer (get_or loops opened no_loop) r))
       go [] a b d e = absurd (all_done z i opened segments loops s b l)
       go (p ∷ after) a b d e = numbers_opening z s.done p after i opened s.front segments loops a s.many s.counted s.written b d e r n f g
-
-  -- all are numbered
-  pub all_numbered : length segments ≤ i → (segments ≡ rows_of_segments z) × (loops ≡ rows_of_loops z)
-  all_numbered l = go s.rest s.split s.segments_are s.loops_are s.all_loops
-    where
-      go : (rest : List PlacedSegment) → z ≡ s.done ++ rest → segments ≡ map (segment_row z) s.done ++ map row_with_name rest → loops ≡ s.front ++ each_loop closed_row (suc i) rest
-          → rows_of_loops z ≡ s.front ++ each_loop (loop_row z) (suc i) rest → (segments ≡ rows_of_segments z) × (loops ≡ rows_of_loops z)
-      go [] a b d e = (b ∙ append-nil (map (segment_row z) s.done) ∙ ap (map (segment_row z)) (sym (a ∙ append-nil s.done)), d ∙ sym e)
-      go (p ∷ after) a b d e = absurd (one_left z i opened segments loops s p after b l)

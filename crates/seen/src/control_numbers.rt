@@ -37,7 +37,7 @@ impl<'a> ControlNumbers<'a> {
         self.numbers.clear();
     }
 
-    // Whether the number came before, by bytes.
+    // Whether the number came before, by bytes: by same_bytes and not `==`, for what its second clause says.
     pub fn has(&self, number: &[u8]) -> bool
         ensures { result ≡ came_before number.now self.now }
     {

@@ -14,7 +14,8 @@ pub type LineNumber<'a> = &'a [u8];
 const MOST: usize = 16384;
 
 // The numbers of the lines of one set, in the order in which they came, and for each bucket the index of its last one.
-// For each number `older` has the index of the last one before it in its bucket. The two lists are not one list of pairs, since with
+// For each number `older` has the index of the last one before it in its bucket; so a search walks from index to index and no iterator over a list
+// gives what it needs. The library's maps would do it, but they allocate. The two lists are not one list of pairs, since with
 // pairs a reading and its moves take more than the 1 MiB of stack that it may have.
 #[derive(Drop)]
 pub struct LineNumbers<'a> {

@@ -29,9 +29,7 @@ impl<'a> Iterator for Elements<'a> {
 
     // The next element: it runs to the next separator, or to the end of the segment.
     fn next(&mut self) -> Option<Element<'a>> {
-        let Some(at) = self.at else {
-            return None;
-        };
+        let at = self.at?;
         let segment = self.segment;
         let end = find_from(segment.bytes, at, segment.separator);
         let element = Element {

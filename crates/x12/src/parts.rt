@@ -18,8 +18,8 @@ pub struct Interchange<'a> {
     pub delimiters: Delimiters,
 }
 
-// A segment: its number, counted from 1, its place in the interchange, its bytes without the terminator, whether a terminator ends it, and the
-// separator and the component separator of the interchange.
+// A segment: its number, counted from 1, its place in the interchange, its bytes without the terminator, whether a terminator ends it (a flag, since no
+// value goes with it), and the separator and the component separator of the interchange.
 #[derive(Clone, Copy, Debug, PartialEq, Eq)]
 pub struct Segment<'a> {
     pub number: usize,

@@ -10,8 +10,8 @@ returns-then-end-segment-clause-steps c =
     let xs = s.segment.bytes.now in
     let h = c.find_from-end.ensures in
     record {
-      first = ap (parts_from s.segment) c.in-Some.is ∙ last_at xs s.segment.separator s.segment.place c.in-Some.at c.find_from-end.result h (omega arith);
-      part = part_of xs s.segment.place c.in-Some.at c.find_from-end.result h.low h.within;
+      first = ap (parts_from s.segment) c.in_ok-at.was ∙ last_at xs s.segment.separator s.segment.place c.in_ok-at.at c.find_from-end.result h (omega arith);
+      part = part_of xs s.segment.place c.in_ok-at.at c.find_from-end.result h.low h.within;
       numbered = refl;
       same = refl;
       counted = omega arith;
@@ -25,8 +25,8 @@ returns-clause-steps c =
     let h = c.find_from-end.ensures in
     let lt : c.find_from-end.result < length xs = omega (arith, h.within) in
     record {
-      first = ap (parts_from s.segment) c.in-Some.is ∙ found_at xs s.segment.separator s.segment.place c.in-Some.at c.find_from-end.result h lt;
-      part = part_of xs s.segment.place c.in-Some.at c.find_from-end.result h.low h.within;
+      first = ap (parts_from s.segment) c.in_ok-at.was ∙ found_at xs s.segment.separator s.segment.place c.in_ok-at.at c.find_from-end.result h lt;
+      part = part_of xs s.segment.place c.in_ok-at.at c.find_from-end.result h.low h.within;
       numbered = refl;
       same = refl;
       counted = omega arith;
