@@ -18,7 +18,7 @@ g '4 only copied'  'derive\(Clone, Copy\)'
 gc '5 facts'  'requires.*(2 \^ 64|limit_at|SmallCounts)'
 g '5 together'  'separator: u8|delimiters: Delimiters|first: &\[u8\]'
 g '6 buffers'  '\[[a-zA-Z0-9]+(<.*>)?; *\w+\]|(count|len|depth): usize,'
-g '7 steps'  '=> (pass|begin_set|inside|\w+_rule|\w+_code|Turn::\w+)\b'
+g '7 steps'  '=> (Some\()?(self\.)?(pass|begin_set|inside|\w+_rule|\w+_code|Turn::\w+)\b'
 printf '%s\t8 answers\n' "$(git grep -hE '^pub [a-z_0-9+-]+ :' $c -- 'crates/*/proofs/*Answers.antt' 'crates/*/proofs/**/Answers.antt' | wc -l)"
 printf '%s\t8 lines of proofs\n' "$(git grep -hE '' $c -- 'crates/*/proofs/*.antt' 'crates/*/proofs/**/*.antt' | wc -l)"
 printf '%s\t  lines of src\n' "$(git grep -hE '' $c -- 'crates/*/src/*.rt' 'crates/*/src/**/*.rt' | wc -l)"
