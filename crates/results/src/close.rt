@@ -4,15 +4,22 @@ ghost use Rattle.results.specs.Steps.{last_by, close_by};
 
 use crate::rows::{LoopRow, SegmentRow};
 
-// How many rows behind segment `opening` stand in a loop that was opened there or later, one after the other.
+// How many rows from the first on stand in a loop that was opened at segment `opening` or later, one after the other.
+fn rows_passed(rows: &[SegmentRow], opening: usize) -> usize
+    ensures { result ≡ prefix_len (λ s. nat_le opening s.around) rows.now }
+{
+    rows.iter().take_while(|row| row.around >= opening).count()
+}
+
+// How many rows behind segment `opening` stand in a loop that was opened there or later, one after the other: by a part of the rows, since
+// `skip` walks over all that it leaves out.
 fn rows_within(segments: &[SegmentRow], opening: usize) -> usize
     ensures { result ≡ prefix_len (λ s. nat_le opening s.around) (drop opening segments.now) }
 {
-    segments
-        .iter()
-        .skip(opening)
-        .take_while(|row| row.around >= opening)
-        .count()
+    match segments.split_at_checked(opening) {
+        Some((_, behind)) => rows_passed(behind, opening),
+        None => 0,
+    }
 }
 
 // The last segment of the loop that segment `opening` opens: it goes on as long as rows stand in a loop that was opened there or later.
