@@ -37,9 +37,11 @@ impl<'a> LineNumbers<'a> {
     pub fn new() -> Self
         ensures { result ≡ [] }
     {
+        let numbers = ArrayVec::new();
+        let older = ArrayVec::new();
         LineNumbers {
-            numbers: ArrayVec::new(),
-            older: ArrayVec::new(),
+            numbers,
+            older,
             heads: [None; BUCKETS],
         }
     }
