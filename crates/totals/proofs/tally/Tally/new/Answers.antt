@@ -1,4 +1,4 @@
-use Rattle.std.proofs.Common.{Bool, false, List, get_or, refl, ap, ◌∙◌}
+use Rattle.std.proofs.Common.{Bool, false, List, get_or, refl, ap, ◌∙◌, rules}
 use Rattle.totals.proofs.Amounts.{none_used}
 use Rattle.totals.proofs.tally.Tally.new.Goals as goal
 
@@ -7,7 +7,7 @@ returns c = λ m separator.
     let n = c.default.ensures in
     let k = c.default-2.ensures in
     record {
-      groups = n.0;
+      groups = search (rules, n.0);
       sets = n.1.0;
       lines = n.1.1.0;
       sum = n.1.1.1.0;
