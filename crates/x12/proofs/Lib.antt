@@ -1,3 +1,4 @@
+pub mod Clean
 pub mod Finds
 pub mod Follows
 pub mod Hands

@@ -1,8 +1,8 @@
-ghost use Rattle.std.specs.Prelude.{◌≡◌, Ok, Err, MatchResult};
+ghost use Rattle.std.specs.Prelude.{◌≡◌, false, Ok, Err, MatchResult};
 ghost use Rattle.x12.specs.Views.{plain};
 ghost use Rattle.std.specs.List.{list_all, list_any};
 ghost use Rattle.x12.specs.Causes.{cause_of};
-ghost use Rattle.x12.specs.Checks.{bad_byte, name_byte, good_name, part_check, segment_check};
+ghost use Rattle.x12.specs.Checks.{bad_byte, name_byte, good_name, part_judged, part_check, segment_check};
 
 use crate::classes::Class;
 use crate::faults::ByteFault;
@@ -43,6 +43,21 @@ fn is_name(v: &[u8]) -> bool
     matches!(v.len(), 2..=3) && has_name_bytes(v)
 }
 
+// What the name of the segment is refused for, where no byte of it is bad: it is no name, or no terminator ends the segment.
+fn check_name(segment: &Segment<'_>, name: &Element<'_>) -> Result<(), ByteFault>
+    ensures { MatchResult result
+        (λ u. part_judged false segment.now.number segment.now.closed 0 (name.now.place, name.now.bytes.now) ≡ Ok u)
+        (λ f. part_judged false segment.now.number segment.now.closed 0 (name.now.place, name.now.bytes.now) ≡ Err (cause_of f)) }
+{
+    if !segment.closed || !is_name(name.bytes) {
+        return Err(ByteFault::WrongSegment {
+            segment: segment.number,
+            place: name.place,
+        });
+    }
+    Ok(())
+}
+
 // What an element of the segment is refused for: a bad byte, else a bad name or one in a segment with no terminator.
 fn check_part(segment: &Segment<'_>, element: &Element<'_>) -> Result<(), ByteFault>
     ensures { MatchResult result
@@ -53,18 +68,28 @@ fn check_part(segment: &Segment<'_>, element: &Element<'_>) -> Result<(), ByteFa
     if !is_isa16 && has_bad(segment.component, element.bytes) {
         return Err(ByteFault::WrongByte(segment.site(element.number, element.place)));
     }
-    if element.number == 0 && (!segment.closed || !is_name(element.bytes)) {
-        return Err(ByteFault::WrongSegment {
-            segment: segment.number,
-            place: element.place,
-        });
+    if element.number == 0 {
+        return check_name(segment, element);
     }
     Ok(())
 }
 
 impl Segment<'_> {
-    // The first byte fault of the segment, by element and number: its elements in order.
+    // The first byte fault of the segment, by element and number. Where none of its bytes is bad, nothing but its name can be refused, so its bytes are
+    // gone over once. In segment 1, where ISA16 holds the component separator itself, the elements are checked in turn.
     pub fn check(&self) -> Result<(), ByteFault>
+        ensures { MatchResult result
+            (λ u. segment_check self.now.separator self.now.component self.now.number (plain self.now) ≡ Ok u)
+            (λ f. segment_check self.now.separator self.now.component self.now.number (plain self.now) ≡ Err (cause_of f)) }
+    {
+        if self.number == 1 || has_bad(self.component, self.bytes) {
+            return self.check_in_turn();
+        }
+        check_name(self, &self.part(0))
+    }
+
+    // The same, by its elements in order.
+    fn check_in_turn(&self) -> Result<(), ByteFault>
         ensures { MatchResult result
             (λ u. segment_check self.now.separator self.now.component self.now.number (plain self.now) ≡ Ok u)
             (λ f. segment_check self.now.separator self.now.component self.now.number (plain self.now) ≡ Err (cause_of f)) }

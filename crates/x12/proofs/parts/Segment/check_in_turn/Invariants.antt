@@ -3,7 +3,7 @@ use Rattle.x12.specs.Lists.{each}
 use Rattle.x12.specs.Views.{plain}
 use Rattle.x12.specs.Comes.{parts_from}
 use Rattle.x12.specs.Checks.{part_check, segment_check}
-use Rattle.x12.proofs.parts.Segment.check.Given as goal
+use Rattle.x12.proofs.parts.Segment.check_in_turn.Given as goal
 
 abbrev pub invariant-loop-element : goal.invariant-loop-element
 invariant-loop-element l =
