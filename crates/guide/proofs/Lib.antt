@@ -1,3 +1,4 @@
 pub mod LawTest
 pub mod Rows
 pub mod Sets
+pub mod Short

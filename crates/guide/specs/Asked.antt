@@ -1,5 +1,5 @@
 -- What a judge may ask of a guide, as the meaning answers it.
-use Rattle.std.specs.Prelude.{ℕ, max, Bool, true, false, cond, ◌&&◌, ◌||◌, List, [], ◌∷◌, Some, None, Option, ◌==◌, nat_eq}
+use Rattle.std.specs.Prelude.{ℕ, ◌^◌, ◌<◌, max, Bool, true, false, cond, ◌&&◌, ◌||◌, List, [], ◌∷◌, Some, None, Option, ◌==◌, nat_eq}
 use Rattle.std.specs.Str.{bytes_eq}
 use Rattle.x12.specs.Lists.{nth}
 use Rattle.grammar.specs.Tree.{Rows}
@@ -79,6 +79,10 @@ element_at m n e = and_then (row_at m n) (λ s. find_rule e s.this.elements)
 
 abbrev pub rule_of : Meaning → ℕ → ℕ → Option Rule
 rule_of m n e = over (λ x. x.rule) (element_at m n e)
+
+-- a rule whose lengths are 32-bit numbers
+abbrev pub Short : Rule → Type 0
+Short r = (r.least < 2 ^ 32) × (r.greatest < 2 ^ 32)
 
 -- the value is a code of element e of row n, or the element has no codes
 abbrev pub is_code : Meaning → ℕ → ℕ → List ℕ → Bool

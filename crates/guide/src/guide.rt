@@ -1,6 +1,6 @@
-ghost use Rattle.std.specs.Prelude.{◌≡◌};
+ghost use Rattle.std.specs.Prelude.{◌≡◌, IfSome};
 ghost use Rattle.guide.specs.Meaning.{Meaning};
-ghost use Rattle.guide.specs.Asked.{row_of, fits_row, rule_of, is_code, pairs_in, paired_to};
+ghost use Rattle.guide.specs.Asked.{row_of, fits_row, rule_of, Short, is_code, pairs_in, paired_to};
 ghost use Rattle.guide.specs.Law.{Lawful};
 
 use crate::rules::{Kind, Mark, Row, Rule};
@@ -20,9 +20,10 @@ pub trait Guide {
     fn fits(&self, n: u8, mark: Mark<'_>) -> bool
         ensures { result ≡ fits_row (meaning self.now) n mark.entry.name.now mark.entry.first.now };
 
-    // The rule of an element of the row; an element that has none is unused.
+    // The rule of an element of the row; an element that has none is unused. Its lengths are 32-bit numbers.
     fn rule(&self, n: u8, element: u8) -> Option<Rule>
-        ensures { result ≡ rule_of (meaning self.now) n element };
+        ensures is { result ≡ rule_of (meaning self.now) n element }
+        ensures short { IfSome result Short };
 
     // Whether the value is a code of the element, or the element has a rule without codes.
     fn is_code(&self, n: u8, element: u8, value: &[u8]) -> bool

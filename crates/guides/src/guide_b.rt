@@ -1,7 +1,7 @@
 //! Guide B: the table of its rows, and what is its own.
 ghost use Rattle.std.specs.Prelude.{◌≡◌};
 ghost use Rattle.guides.specs.GuideB.{guide_b_meaning};
-ghost use Rattle.guides.specs.Kept.{guide_b_lawful};
+ghost use Rattle.guides.specs.Kept.{guide_b_lawful, guide_b_short};
 
 use crate::tables::{self, Element, ONCE, TableRow, Tabled, element, may, must};
 use guide::guide::Guide;
@@ -229,6 +229,8 @@ const ROWS: &[TableRow] = &[
 
 impl Tabled for GuideB {
     ghost meaning = { λ _. guide_b_meaning };
+
+    ghost short = { λ _. guide_b_short };
 
     fn rows(&self) -> &'static [TableRow] {
         ROWS

@@ -1,7 +1,7 @@
 //! Guide M: the table of its rows, and what is its own.
 ghost use Rattle.std.specs.Prelude.{◌≡◌};
 ghost use Rattle.guides.specs.GuideM.{guide_m_meaning};
-ghost use Rattle.guides.specs.Kept.{guide_m_lawful};
+ghost use Rattle.guides.specs.Kept.{guide_m_lawful, guide_m_short};
 
 use crate::tables::{self, Element, ONCE, TableRow, Tabled, element, may, must};
 use guide::guide::Guide;
@@ -179,6 +179,8 @@ const ROWS: &[TableRow] = &[
 
 impl Tabled for GuideM {
     ghost meaning = { λ _. guide_m_meaning };
+
+    ghost short = { λ _. guide_m_short };
 
     fn rows(&self) -> &'static [TableRow] {
         ROWS

@@ -3,7 +3,7 @@
 //! twice, there is no CTT, and PO106 and PO107 are unused.
 ghost use Rattle.std.specs.Prelude.{◌≡◌};
 ghost use Rattle.guides.specs.GuideOdd.{guide_odd_meaning};
-ghost use Rattle.guides.specs.Kept.{guide_odd_lawful};
+ghost use Rattle.guides.specs.Kept.{guide_odd_lawful, guide_odd_short};
 
 use crate::tables::{self, Element, ONCE, TableRow, Tabled, element, may, must};
 use guide::guide::Guide;
@@ -142,6 +142,8 @@ const ROWS: &[TableRow] = &[
 
 impl Tabled for GuideOdd {
     ghost meaning = { λ _. guide_odd_meaning };
+
+    ghost short = { λ _. guide_odd_short };
 
     fn rows(&self) -> &'static [TableRow] {
         ROWS

@@ -1,10 +1,10 @@
 //! Guides as tables of rows, and how a table answers what a judge asks of a guide.
-ghost use Rattle.std.specs.Prelude.{◌≡◌, ◌==◌, ◌&&◌, ◌||◌, nat_eq, length, option_copied};
+ghost use Rattle.std.specs.Prelude.{◌≡◌, ◌==◌, ◌&&◌, ◌||◌, ℕ, nat_eq, length, option_copied, IfSome};
 ghost use Rattle.std.specs.List.{list_any, find};
 ghost use Rattle.std.specs.Str.{bytes_eq};
 ghost use Rattle.x12.specs.Lists.{nth};
 ghost use Rattle.guide.specs.Meaning.{Meaning};
-ghost use Rattle.guide.specs.Asked.{admits, element_at, fits_row, is_code, matches, over, paired_to, pairs_in, row_at, row_of, rule_of};
+ghost use Rattle.guide.specs.Asked.{admits, element_at, fits_row, is_code, matches, over, paired_to, pairs_in, row_at, row_of, rule_of, Short};
 ghost use Rattle.guides.specs.Rows.{texts, element_meant, row_meant, standing_meant, Means};
 
 use guide::rules::{Mark, Row, Rule};
@@ -80,6 +80,9 @@ pub(crate) use must;
 // A guide whose rows stand in a table. Its meaning stands here too: the impl of Guide is written by the functions below, so they cannot ask for it.
 pub(crate) trait Tabled {
     ghost meaning: { Self → Meaning };
+
+    // The lengths of its rules are 32-bit numbers.
+    ghost short: { (x : Self) (n e : ℕ) → IfSome (rule_of (meaning x) n e) Short };
 
     // The rows in order.
     fn rows(&self) -> &'static [TableRow]
@@ -177,7 +180,8 @@ fn element_at<T: Tabled>(guide: &T, n: u8, number: u8) -> Option<&'static Elemen
 }
 
 pub(crate) fn rule<T: Tabled>(guide: &T, n: u8, number: u8) -> Option<Rule>
-    ensures { result ≡ rule_of (T.meaning guide.now) n number }
+    ensures is { result ≡ rule_of (T.meaning guide.now) n number }
+    ensures short { IfSome result Short }
 {
     element_at(guide, n, number).map(|element| element.rule)
 }
