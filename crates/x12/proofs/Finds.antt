@@ -7,32 +7,32 @@ use Rattle.std.specs.List.{between, AllWithin, HoldsAt}
 use Rattle.x12.specs.Find.{Finds, Passes, Stops}
 use Rattle.x12.specs.Segments.{is_break}
 
-module _ (test : ℕ → Bool → Type 0) (s : List ℕ) (from : ℕ) (le : from ≤ length s) where
+-- what lies between a place and the end of a list is its rest
+pub rest_is : (s : List ℕ) (from to : ℕ) → length s ≤ to → between from to s ≡ drop from s
+rest_is s from to le = take_all (to - from) (drop from s) (omega (arith, length-drop from s))
+
+module _ (test : ℕ → Bool → Type 0) (s rest : List ℕ) (from : ℕ) (le : from ≤ length s) (whole : rest ≡ drop from s) where
   abbrev Fails : ℕ → Type 0
   Fails x = test x false
 
   abbrev Hits : ℕ → Type 0
   Hits x = test x true
 
-  rest_is : between from (length s) s ≡ drop from s
-  rest_is = take_all (length s - from) (drop from s) (omega (arith, length-drop from s))
-
-  there : (k : ℕ) → from ≤ k → get_or (between from (length s) s) (k - from) 0 ≡ get_or s k 0
+  there : (k : ℕ) → from ≤ k → get_or rest (k - from) 0 ≡ get_or s k 0
   there k lo =
       let e : from + (k - from) ≡ k = omega arith in
-      ap (λ l. get_or l (k - from) 0) rest_is ∙ get_or-drop from s (k - from) 0 ∙ ap (λ (i : ℕ). get_or s i 0) e
+      ap (λ l. get_or l (k - from) 0) whole ∙ get_or-drop from s (k - from) 0 ∙ ap (λ (i : ℕ). get_or s i 0) e
 
-  size_is : length (between from (length s) s) ≡ length s - from
-  size_is = ap length rest_is ∙ length-drop from s
+  size_is : length rest ≡ length s - from
+  size_is = ap length whole ∙ length-drop from s
 
   -- no byte of the rest before place n passes
-  none_before : (n : ℕ) → AllWithin Fails (between from (length s) s) 0 n → (k : ℕ) → from ≤ k → k < from + n → Fails (get_or s k 0)
+  none_before : (n : ℕ) → AllWithin Fails rest 0 n → (k : ℕ) → from ≤ k → k < from + n → Fails (get_or s k 0)
   none_before n h k lo hi = subst Fails (there k lo) (h (k - from) 0 (omega arith) (omega arith))
 
   -- what a search in the rest answers
   abbrev Answer : Option ℕ → Type 0
   Answer r =
-      let rest = between from (length s) s in
       MatchOption r (AllWithin Fails rest 0 (length rest)) (λ k. (k < length rest) × HoldsAt Hits rest k × AllWithin Fails rest 0 k)
 
   pub stops_there : (r : Option ℕ) (k : ℕ) → r ≡ Some k → Answer r → Stops test s from (from + k)
@@ -43,7 +43,7 @@ module _ (test : ℕ → Bool → Type 0) (s : List ℕ) (from : ℕ) (le : from
         low = omega arith;
         within = omega (arith, h.0, size_is);
         before = none_before k h.2;
-        stops = λ _. subst Hits (ap (λ (j : ℕ). get_or (between from (length s) s) j 0) (sym z) ∙ there (from + k) (omega arith)) (h.1 0);
+        stops = λ _. subst Hits (ap (λ (j : ℕ). get_or rest j 0) (sym z) ∙ there (from + k) (omega arith)) (h.1 0);
       }
 
   pub stops_nowhere : (r : Option ℕ) → r ≡ None → Answer r → Stops test s from (length s)
