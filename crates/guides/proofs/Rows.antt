@@ -1,8 +1,8 @@
 -- The look-ups of a table give what a judge asks of the meaning.
-use Rattle.std.proofs.Common.{◌≡◌, ℕ, zero, suc, ◌≤◌, Bool, true, false, cond, ◌||◌, List, [], ◌∷◌, map, length, Some, None, Option, option_copied, sym, refl, ap, ◌∙◌, ◌==◌, ◌-◌, arith}
-use Rattle.std.proofs.lemmas.Bool.{false≢true}
+use Rattle.std.proofs.Common.{◌≡◌, ℕ, zero, suc, ◌≤◌, Bool, true, false, cond, ◌||◌, List, [], ◌∷◌, map, length, Some, None, Option, option_copied, IfSome, subst, sym, refl, ap, ◌∙◌, ◌==◌, ◌-◌, arith}
+use Rattle.std.proofs.lemmas.Bool.{false≢true, and_parts}
 use Rattle.std.specs.Borrow.{Bor}
-use Rattle.std.specs.List.{list_any, find, slice_get}
+use Rattle.std.specs.List.{list_any, list_all, find, slice_get}
 use Rattle.std.specs.Str.{bytes_eq}
 use Rattle.x12.specs.Lists.{nth}
 use Rattle.guide.specs.declared.rules.Row.{Row}
@@ -10,6 +10,7 @@ use Rattle.guide.specs.Meaning.{Meaning, Standing, standing}
 use Rattle.guide.specs.Asked.{is_among, admits, over, and_then, told, find_rule, row_at, row_of, element_at}
 use Rattle.guides.specs.declared.tables.Element.{Element}
 use Rattle.guides.specs.declared.tables.TableRow.{TableRow}
+use Rattle.guides.specs.Bits.{are_placed, are_marked, is_kept}
 use Rattle.guides.specs.Rows.{texts, element_meant, standing_meant, told_of, Means}
 
 pub is_among_lem : (v : List ℕ) (cs : List (Bor (List ℕ))) → list_any (λ c. bytes_eq v c.now) cs ≡ is_among v (texts cs)
@@ -59,7 +60,24 @@ pub told_lem : (m : Meaning) (ls : List TableRow) (n : ℕ) (r : Option (Bor Tab
 told_lem m ls n r means e =
     over_copied told_of r ∙ ap (over told_of) e ∙ over_nth told_of ls n ∙ ap (λ (rows : List Row). nth rows n) means.1 ∙ sym (over_nth told (standing 0 m.tree) n)
 
-pub element_lem : (m : Meaning) (n k : ℕ) (l : Bor TableRow) (r : Option (Bor Element)) → Some (standing_meant l.now) ≡ row_at m n → option_copied r ≡ find (λ e. k == e.number) l.now.elements.now
+pub element_lem : (m : Meaning) (n k : ℕ) (l : Bor TableRow) (r : Option (Bor Element)) → Some (standing_meant l.now) ≡ row_at m n → option_copied r ≡ find (λ e. k == e.number) l.now.elements.list.now
     → over (λ e. element_meant e.now) r ≡ element_at m n k
 element_lem m n k l r stands e =
-    over_copied element_meant r ∙ ap (over element_meant) e ∙ find_rule_lem k l.now.elements.now ∙ ap (λ (o : Option Standing). and_then o (λ s. find_rule k s.this.elements)) stands
+    over_copied element_meant r ∙ ap (over element_meant) e ∙ find_rule_lem k l.now.elements.list.now ∙ ap (λ (o : Option Standing). and_then o (λ s. find_rule k s.this.elements)) stands
+
+-- the bits of the row that is found are right
+nth_kept : (ls : List TableRow) (n : ℕ) → list_all is_kept ls ≡ true → IfSome (nth ls n) (λ l. is_kept l ≡ true)
+nth_kept [] n k = tt
+nth_kept (l ∷ ls) zero k = tt
+nth_kept (l ∷ ls) (suc zero) k = (and_parts (is_kept l) (list_all is_kept ls) k).0
+nth_kept (l ∷ ls) (suc (suc n)) k = nth_kept ls (suc n) (and_parts (is_kept l) (list_all is_kept ls) k).1
+
+kept_copied : (r : Option (Bor TableRow)) → IfSome (option_copied r) (λ l. is_kept l ≡ true) → IfSome r (λ l. is_kept l.now ≡ true)
+kept_copied None k = tt
+kept_copied (Some l) k = k
+
+pub kept_lem : (m : Meaning) (ls : List TableRow) (n : ℕ) (r : Option (Bor TableRow)) → Means ls m → option_copied r ≡ nth ls n → IfSome r (λ l. is_kept l.now ≡ true)
+kept_lem m ls n r means e = kept_copied r (subst (λ (o : Option TableRow). IfSome o (λ l. is_kept l ≡ true)) (sym e) (nth_kept ls n means.2))
+
+pub parts_of : (r : TableRow) → is_kept r ≡ true → (are_placed r.elements.named 0 r.elements.list.now ≡ true) × (are_marked r.pairs.firsts r.pairs.seconds r.pairs.list.now ≡ true)
+parts_of r k = and_parts (are_placed r.elements.named 0 r.elements.list.now) (are_marked r.pairs.firsts r.pairs.seconds r.pairs.list.now) k

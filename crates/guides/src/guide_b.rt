@@ -3,7 +3,10 @@ ghost use Rattle.std.specs.Prelude.{◌≡◌};
 ghost use Rattle.guides.specs.GuideB.{guide_b_meaning};
 ghost use Rattle.guides.specs.Kept.{guide_b_lawful, guide_b_short};
 
-use crate::tables::{self, Element, ONCE, TableRow, Tabled, element, may, must};
+use crate::tables::{
+    self, Element, Elements, ONCE, PairRules, TableRow, Tabled, element, element_list, may, must,
+    pair_list,
+};
 use guide::guide::Guide;
 use guide::rules::{Kind, Mark, Need, Row, Rule};
 use value::forms::Form;
@@ -33,8 +36,8 @@ const ROWS: &[TableRow] = &[
         told: ONCE,
         name: b"ST",
         placing: &[],
-        elements: &[must!(1, Id, 3, 3, &[b"855"]), must!(2, An, 1, 9)],
-        pairs: &[],
+        elements: element_list![must!(1, Id, 3, 3, &[b"855"]), must!(2, An, 1, 9)],
+        pairs: pair_list![],
     },
     // Row 2, BAK: once.
     TableRow {
@@ -44,25 +47,25 @@ const ROWS: &[TableRow] = &[
         },
         name: b"BAK",
         placing: &[],
-        elements: &[
+        elements: element_list![
             must!(1, Id, 2, 2),
             must!(2, Id, 2, 2),
             must!(3, An, 1, 22),
             must!(4, D8, 8, 8),
             must!(9, D8, 8, 8),
         ],
-        pairs: &[],
+        pairs: pair_list![],
     },
     // Row 3, CUR: once.
     TableRow {
         told: ONCE,
         name: b"CUR",
         placing: &[],
-        elements: &[
+        elements: element_list![
             must!(1, Id, 2, 2, &[b"BY", b"SE"]),
             must!(2, Id, 3, 3, &[b"CAD", b"USD"]),
         ],
-        pairs: &[],
+        pairs: pair_list![],
     },
     // Row 4, N1 placed by BT: once.
     TableRow {
@@ -72,13 +75,13 @@ const ROWS: &[TableRow] = &[
         },
         name: b"N1",
         placing: &[b"BT"],
-        elements: &[
+        elements: element_list![
             must!(1, Id, 2, 2, &[b"BT"]),
             may!(2, An, 1, 35),
             must!(3, Id, 1, 2, PARTY_QUALIFIERS),
             must!(4, An, 2, 20),
         ],
-        pairs: &[],
+        pairs: pair_list![],
     },
     // Row 5, N1 placed by ST: once.
     TableRow {
@@ -88,12 +91,12 @@ const ROWS: &[TableRow] = &[
         },
         name: b"N1",
         placing: &[b"ST"],
-        elements: &[
+        elements: element_list![
             must!(1, Id, 2, 2, &[b"ST"]),
             must!(3, Id, 1, 2, PARTY_QUALIFIERS),
             must!(4, An, 2, 20),
         ],
-        pairs: &[],
+        pairs: pair_list![],
     },
     // Row 6, N1 placed by VN: once.
     TableRow {
@@ -103,13 +106,13 @@ const ROWS: &[TableRow] = &[
         },
         name: b"N1",
         placing: &[b"VN"],
-        elements: &[
+        elements: element_list![
             must!(1, Id, 2, 2, &[b"VN"]),
             may!(2, An, 1, 35),
             must!(3, Id, 1, 2, PARTY_QUALIFIERS),
             must!(4, An, 2, 20),
         ],
-        pairs: &[],
+        pairs: pair_list![],
     },
     // Row 7, PO1, a line of the order: 1 to 100,000 times. It opens a loop.
     TableRow {
@@ -122,7 +125,7 @@ const ROWS: &[TableRow] = &[
         },
         name: b"PO1",
         placing: &[],
-        elements: &[
+        elements: element_list![
             must!(1, An, 1, 20),
             must!(2, Q, 1, 9),
             must!(3, Id, 2, 2, UNITS),
@@ -132,7 +135,7 @@ const ROWS: &[TableRow] = &[
             may!(8, Id, 2, 2, SECOND_QUALIFIERS),
             may!(9, An, 1, 40),
         ],
-        pairs: &[(8, 9), (9, 8)],
+        pairs: pair_list![(8, 9), (9, 8)],
     },
     // Row 8, CTP, in the PO1 loop: at most once.
     TableRow {
@@ -145,13 +148,13 @@ const ROWS: &[TableRow] = &[
         },
         name: b"CTP",
         placing: &[],
-        elements: &[
+        elements: element_list![
             may!(2, Id, 3, 3, &[b"SLP"]),
             may!(3, R, 1, 17),
             may!(6, Id, 3, 3, &[b"DIS"]),
             may!(7, R, 1, 10),
         ],
-        pairs: &[(2, 3), (3, 2), (6, 7), (7, 6)],
+        pairs: pair_list![(2, 3), (3, 2), (6, 7), (7, 6)],
     },
     // Row 9, PID, in the PO1 loop: at most once.
     TableRow {
@@ -163,8 +166,8 @@ const ROWS: &[TableRow] = &[
         },
         name: b"PID",
         placing: &[],
-        elements: &[must!(1, Id, 1, 1, &[b"F"]), must!(5, An, 1, 80)],
-        pairs: &[],
+        elements: element_list![must!(1, Id, 1, 1, &[b"F"]), must!(5, An, 1, 80)],
+        pairs: pair_list![],
     },
     // Row 10, ACK, in the PO1 loop: 1 to 104 times. It opens a loop.
     TableRow {
@@ -178,7 +181,7 @@ const ROWS: &[TableRow] = &[
         },
         name: b"ACK",
         placing: &[],
-        elements: &[
+        elements: element_list![
             must!(1, Id, 2, 2, &[b"IA", b"IR"]),
             must!(2, Q, 1, 9),
             must!(3, Id, 2, 2, UNITS),
@@ -188,7 +191,7 @@ const ROWS: &[TableRow] = &[
             must!(28, Id, 3, 3, &[b"ACK"]),
             must!(29, An, 1, 30),
         ],
-        pairs: &[(4, 5), (5, 4)],
+        pairs: pair_list![(4, 5), (5, 4)],
     },
     // Row 11, SCH, in the ACK loop: at most 200 times.
     TableRow {
@@ -201,29 +204,29 @@ const ROWS: &[TableRow] = &[
         },
         name: b"SCH",
         placing: &[],
-        elements: &[
+        elements: element_list![
             must!(1, Q, 1, 9),
             must!(2, Id, 2, 2, UNITS),
             must!(5, Id, 3, 3, DAY_QUALIFIERS),
             must!(6, D8, 8, 8),
         ],
-        pairs: &[],
+        pairs: pair_list![],
     },
     // Row 12, CTT: once.
     TableRow {
         told: ONCE,
         name: b"CTT",
         placing: &[],
-        elements: &[must!(1, N0, 1, 6), must!(2, N0, 1, 10)],
-        pairs: &[],
+        elements: element_list![must!(1, N0, 1, 6), must!(2, N0, 1, 10)],
+        pairs: pair_list![],
     },
     // Row 13, SE: once.
     TableRow {
         told: ONCE,
         name: b"SE",
         placing: &[],
-        elements: &[must!(1, N0, 1, 10), must!(2, An, 1, 9)],
-        pairs: &[],
+        elements: element_list![must!(1, N0, 1, 10), must!(2, An, 1, 9)],
+        pairs: pair_list![],
     },
 ];
 

@@ -3,7 +3,10 @@ ghost use Rattle.std.specs.Prelude.{◌≡◌};
 ghost use Rattle.guides.specs.GuideM.{guide_m_meaning};
 ghost use Rattle.guides.specs.Kept.{guide_m_lawful, guide_m_short};
 
-use crate::tables::{self, Element, ONCE, TableRow, Tabled, element, may, must};
+use crate::tables::{
+    self, Element, Elements, ONCE, PairRules, TableRow, Tabled, element, element_list, may, must,
+    pair_list,
+};
 use guide::guide::Guide;
 use guide::rules::{Kind, Mark, Need, Row, Rule};
 use value::forms::Form;
@@ -19,8 +22,8 @@ const ROWS: &[TableRow] = &[
         told: ONCE,
         name: b"ST",
         placing: &[],
-        elements: &[must!(1, Id, 3, 3, &[b"855"]), must!(2, An, 4, 9)],
-        pairs: &[],
+        elements: element_list![must!(1, Id, 3, 3, &[b"855"]), must!(2, An, 4, 9)],
+        pairs: pair_list![],
     },
     // Row 2, BAK: once.
     TableRow {
@@ -30,7 +33,7 @@ const ROWS: &[TableRow] = &[
         },
         name: b"BAK",
         placing: &[],
-        elements: &[
+        elements: element_list![
             must!(1, Id, 2, 2, &[b"00"]),
             must!(2, Id, 2, 2, &[b"AC", b"AD", b"AK", b"RD", b"RJ"]),
             must!(3, An, 1, 22),
@@ -38,23 +41,23 @@ const ROWS: &[TableRow] = &[
             may!(5, An, 1, 30),
             must!(9, D8, 8, 8),
         ],
-        pairs: &[],
+        pairs: pair_list![],
     },
     // Row 3, CUR: at most once.
     TableRow {
         told: Row { least: 0, ..ONCE },
         name: b"CUR",
         placing: &[],
-        elements: &[must!(1, Id, 2, 2, &[b"BY"]), must!(2, Id, 3, 3)],
-        pairs: &[],
+        elements: element_list![must!(1, Id, 2, 2, &[b"BY"]), must!(2, Id, 3, 3)],
+        pairs: pair_list![],
     },
     // Row 4, REF placed by IA: once.
     TableRow {
         told: ONCE,
         name: b"REF",
         placing: &[b"IA"],
-        elements: &[must!(1, Id, 2, 2, &[b"IA"]), must!(2, An, 1, 30)],
-        pairs: &[],
+        elements: element_list![must!(1, Id, 2, 2, &[b"IA"]), must!(2, An, 1, 30)],
+        pairs: pair_list![],
     },
     // Row 5, N9 placed by L1: at most 1,000 times. It opens a loop.
     TableRow {
@@ -66,8 +69,8 @@ const ROWS: &[TableRow] = &[
         },
         name: b"N9",
         placing: &[b"L1"],
-        elements: &[must!(1, Id, 2, 2, &[b"L1"]), must!(2, An, 1, 30)],
-        pairs: &[],
+        elements: element_list![must!(1, Id, 2, 2, &[b"L1"]), must!(2, An, 1, 30)],
+        pairs: pair_list![],
     },
     // Row 6, MSG, in the N9 loop: 1 to 1,000 times.
     TableRow {
@@ -79,8 +82,8 @@ const ROWS: &[TableRow] = &[
         },
         name: b"MSG",
         placing: &[],
-        elements: &[must!(1, An, 1, 264)],
-        pairs: &[],
+        elements: element_list![must!(1, An, 1, 264)],
+        pairs: pair_list![],
     },
     // Row 7, N1 placed by VN: 1 to 200 times.
     TableRow {
@@ -91,13 +94,13 @@ const ROWS: &[TableRow] = &[
         },
         name: b"N1",
         placing: &[b"VN"],
-        elements: &[
+        elements: element_list![
             must!(1, Id, 2, 2, &[b"VN"]),
             must!(2, An, 1, 60),
             must!(3, Id, 2, 2, &[b"92"]),
             must!(4, An, 2, 80),
         ],
-        pairs: &[],
+        pairs: pair_list![],
     },
     // Row 8, PO1, a line of the order: 1 to 100,000 times. It opens a loop.
     TableRow {
@@ -110,7 +113,7 @@ const ROWS: &[TableRow] = &[
         },
         name: b"PO1",
         placing: &[],
-        elements: &[
+        elements: element_list![
             must!(1, An, 1, 20),
             must!(2, Q, 1, 9),
             must!(3, Id, 2, 2),
@@ -120,7 +123,7 @@ const ROWS: &[TableRow] = &[
             may!(8, Id, 2, 2, &[b"VP"]),
             may!(9, An, 1, 48),
         ],
-        pairs: &[(6, 7), (7, 6), (8, 9), (9, 8)],
+        pairs: pair_list![(6, 7), (7, 6), (8, 9), (9, 8)],
     },
     // Row 9, PID, in the PO1 loop: 1 to 1,000 times.
     TableRow {
@@ -132,12 +135,12 @@ const ROWS: &[TableRow] = &[
         },
         name: b"PID",
         placing: &[],
-        elements: &[
+        elements: element_list![
             must!(1, Id, 1, 1, &[b"F"]),
             may!(2, Id, 2, 2, &[b"08"]),
             must!(5, An, 1, 80),
         ],
-        pairs: &[],
+        pairs: pair_list![],
     },
     // Row 10, ACK, in the PO1 loop: 1 to 104 times.
     TableRow {
@@ -150,30 +153,30 @@ const ROWS: &[TableRow] = &[
         },
         name: b"ACK",
         placing: &[],
-        elements: &[
+        elements: element_list![
             must!(1, Id, 2, 2),
             must!(2, Q, 1, 9),
             must!(3, Id, 2, 2),
             may!(4, Id, 3, 3, &[b"067"]),
             may!(5, D8, 8, 8),
         ],
-        pairs: &[(4, 5), (5, 4)],
+        pairs: pair_list![(4, 5), (5, 4)],
     },
     // Row 11, CTT: at most once.
     TableRow {
         told: Row { least: 0, ..ONCE },
         name: b"CTT",
         placing: &[],
-        elements: &[must!(1, N0, 1, 6), may!(2, N0, 1, 10)],
-        pairs: &[],
+        elements: element_list![must!(1, N0, 1, 6), may!(2, N0, 1, 10)],
+        pairs: pair_list![],
     },
     // Row 12, SE: once.
     TableRow {
         told: ONCE,
         name: b"SE",
         placing: &[],
-        elements: &[must!(1, N0, 1, 10), must!(2, An, 1, 9)],
-        pairs: &[],
+        elements: element_list![must!(1, N0, 1, 10), must!(2, An, 1, 9)],
+        pairs: pair_list![],
     },
 ];
 

@@ -5,7 +5,10 @@ ghost use Rattle.std.specs.Prelude.{◌≡◌};
 ghost use Rattle.guides.specs.GuideOdd.{guide_odd_meaning};
 ghost use Rattle.guides.specs.Kept.{guide_odd_lawful, guide_odd_short};
 
-use crate::tables::{self, Element, ONCE, TableRow, Tabled, element, may, must};
+use crate::tables::{
+    self, Element, Elements, ONCE, PairRules, TableRow, Tabled, element, element_list, may, must,
+    pair_list,
+};
 use guide::guide::Guide;
 use guide::rules::{Kind, Mark, Need, Row, Rule};
 use value::forms::Form;
@@ -14,6 +17,13 @@ use value::forms::Form;
 #[derive(Clone, Copy, Debug, PartialEq, Eq)]
 pub struct GuideOdd;
 
+// An element that may not be filled.
+macro_rules! unused {
+    ($number:expr, $form:ident, $least:expr, $greatest:expr) => {
+        element!(Unused, $number, $form, $least, $greatest, &[])
+    };
+}
+
 // The rows in order.
 const ROWS: &[TableRow] = &[
     // Row 1, ST: once.
@@ -21,8 +31,8 @@ const ROWS: &[TableRow] = &[
         told: ONCE,
         name: b"ST",
         placing: &[],
-        elements: &[must!(1, Id, 3, 3, &[b"855"]), must!(2, An, 2, 6)],
-        pairs: &[],
+        elements: element_list![must!(1, Id, 3, 3, &[b"855"]), must!(2, An, 2, 6)],
+        pairs: pair_list![],
     },
     // Row 2, BAK: once.
     TableRow {
@@ -32,16 +42,16 @@ const ROWS: &[TableRow] = &[
         },
         name: b"BAK",
         placing: &[],
-        elements: &[must!(1, Id, 2, 2), must!(2, Id, 2, 2), must!(3, An, 1, 10)],
-        pairs: &[],
+        elements: element_list![must!(1, Id, 2, 2), must!(2, Id, 2, 2), must!(3, An, 1, 10)],
+        pairs: pair_list![],
     },
     // Row 3, REF: once. Row 4, another REF that no code tells apart from the first: once.
     TableRow {
         told: ONCE,
         name: b"REF",
         placing: &[],
-        elements: &[must!(1, Id, 2, 3), must!(2, An, 1, 30)],
-        pairs: &[],
+        elements: element_list![must!(1, Id, 2, 3), must!(2, An, 1, 30)],
+        pairs: pair_list![],
     },
     TableRow {
         told: Row {
@@ -50,8 +60,8 @@ const ROWS: &[TableRow] = &[
         },
         name: b"REF",
         placing: &[],
-        elements: &[must!(1, Id, 2, 2, &[b"ZZ"]), may!(3, An, 1, 80)],
-        pairs: &[],
+        elements: element_list![must!(1, Id, 2, 2, &[b"ZZ"]), may!(3, An, 1, 80)],
+        pairs: pair_list![],
     },
     // Row 5, HL placed by 1 or by 22: 1 to 20 times. It opens the loop that PO1 stands in.
     TableRow {
@@ -62,8 +72,8 @@ const ROWS: &[TableRow] = &[
         },
         name: b"HL",
         placing: &[b"1", b"22"],
-        elements: &[must!(1, Id, 1, 2, &[b"1", b"22"]), may!(2, An, 1, 12)],
-        pairs: &[],
+        elements: element_list![must!(1, Id, 1, 2, &[b"1", b"22"]), may!(2, An, 1, 12)],
+        pairs: pair_list![],
     },
     // Row 6, PO1, a line of the order, in the HL loop: at most 50 times. It opens a loop. PO106 has a rule by which it is unused, PO107 has none.
     TableRow {
@@ -77,13 +87,13 @@ const ROWS: &[TableRow] = &[
         },
         name: b"PO1",
         placing: &[],
-        elements: &[
+        elements: element_list![
             must!(1, An, 1, 6),
             must!(2, Q, 1, 5),
             must!(3, Id, 1, 2),
-            element!(Unused, 6, R, 3, 4, &[]),
+            unused!(6, R, 3, 4),
         ],
-        pairs: &[],
+        pairs: pair_list![],
     },
     // Row 7, LIN, in the PO1 loop: at most 10 times. It opens a loop. If element 2 is filled, so is element 3, and not the other way round.
     TableRow {
@@ -98,8 +108,8 @@ const ROWS: &[TableRow] = &[
         },
         name: b"LIN",
         placing: &[],
-        elements: &[may!(2, Id, 2, 2, &[b"EN", b"UP"]), may!(3, An, 1, 48)],
-        pairs: &[(2, 3)],
+        elements: element_list![may!(2, Id, 2, 2, &[b"EN", b"UP"]), may!(3, An, 1, 48)],
+        pairs: pair_list![(2, 3)],
     },
     // Row 8, SLN, in the LIN loop: 2 to 5 times. It opens a loop. If element 1 is filled, so is element 4, which has no rule: each is at fault.
     TableRow {
@@ -114,8 +124,8 @@ const ROWS: &[TableRow] = &[
         },
         name: b"SLN",
         placing: &[],
-        elements: &[may!(1, An, 1, 20), may!(3, R, 1, 4)],
-        pairs: &[(1, 4)],
+        elements: element_list![may!(1, An, 1, 20), may!(3, R, 1, 4)],
+        pairs: pair_list![(1, 4)],
     },
     // Row 9, ACK, in the SLN loop: at most 3 times. So it stands in four loops, and two of them lie between it and the PO1 loop.
     TableRow {
@@ -127,16 +137,16 @@ const ROWS: &[TableRow] = &[
         },
         name: b"ACK",
         placing: &[],
-        elements: &[may!(1, Id, 1, 2), must!(2, Q, 1, 9)],
-        pairs: &[],
+        elements: element_list![may!(1, Id, 1, 2), must!(2, Q, 1, 9)],
+        pairs: pair_list![],
     },
     // Row 10, SE: once.
     TableRow {
         told: ONCE,
         name: b"SE",
         placing: &[],
-        elements: &[must!(1, N0, 1, 10), must!(2, An, 2, 6)],
-        pairs: &[],
+        elements: element_list![must!(1, N0, 1, 10), must!(2, An, 2, 6)],
+        pairs: pair_list![],
     },
 ];
 

@@ -1,11 +1,12 @@
 //! Guides as tables of rows, and how a table answers what a judge asks of a guide.
-ghost use Rattle.std.specs.Prelude.{◌≡◌, ◌==◌, ◌&&◌, ◌||◌, ℕ, nat_eq, length, option_copied, IfSome};
-ghost use Rattle.std.specs.List.{list_any, find};
+ghost use Rattle.std.specs.Prelude.{◌≡◌, true, ◌==◌, ◌&&◌, ◌||◌, ℕ, nat_eq, length, option_copied, IfSome};
+ghost use Rattle.std.specs.List.{list_any, find, slice_get};
 ghost use Rattle.std.specs.Str.{bytes_eq};
 ghost use Rattle.x12.specs.Lists.{nth};
 ghost use Rattle.guide.specs.Meaning.{Meaning};
 ghost use Rattle.guide.specs.Asked.{admits, element_at, fits_row, is_code, matches, over, paired_to, pairs_in, row_at, row_of, rule_of, Short};
 ghost use Rattle.guides.specs.Rows.{texts, element_meant, row_meant, standing_meant, Means};
+ghost use Rattle.guides.specs.Bits.{place_of, has_bit, are_placed, are_marked, is_kept};
 
 use guide::rules::{Mark, Row, Rule};
 
@@ -16,14 +17,28 @@ pub(crate) struct Element {
     pub(crate) codes: &'static [&'static [u8]],
 }
 
+// The elements of a row that have a rule, in the order of their numbers, and a bit for each number. How many bits lie below a number tells where its
+// element stands, so that no look-up goes through the list. 32 bits do, since the law has no number past 30.
+pub(crate) struct Elements {
+    pub(crate) named: u32,
+    pub(crate) list: &'static [Element],
+}
+
+// The pair rules of a row, and a bit for each number that stands first or second in one. Few elements have a pair rule, and a bit tells most others.
+pub(crate) struct PairRules {
+    pub(crate) firsts: u32,
+    pub(crate) seconds: u32,
+    pub(crate) list: &'static [(u8, u8)],
+}
+
 // A row: as it is told, the name of its segments, the codes that place a segment here (none: any first element does), its elements that have a
 // rule, and its pair rules.
 pub(crate) struct TableRow {
     pub(crate) told: Row,
     pub(crate) name: &'static [u8],
     pub(crate) placing: &'static [&'static [u8]],
-    pub(crate) elements: &'static [Element],
-    pub(crate) pairs: &'static [(u8, u8)],
+    pub(crate) elements: Elements,
+    pub(crate) pairs: PairRules,
 }
 
 // A row that stands in no loop, opens none, is used once and has rules for two elements.
@@ -73,9 +88,31 @@ macro_rules! may {
     };
 }
 
+// The elements of a row, and its pair rules, with the bits of their numbers.
+macro_rules! element_list {
+    ($($need:ident!($number:expr, $($rule:tt)*)),* $(,)?) => {
+        Elements {
+            named: 0 $(| 1 << $number)*,
+            list: &[$($need!($number, $($rule)*)),*],
+        }
+    };
+}
+
+macro_rules! pair_list {
+    ($(($a:expr, $b:expr)),* $(,)?) => {
+        PairRules {
+            firsts: 0 $(| 1 << $a)*,
+            seconds: 0 $(| 1 << $b)*,
+            list: &[$(($a, $b)),*],
+        }
+    };
+}
+
 pub(crate) use element;
+pub(crate) use element_list;
 pub(crate) use may;
 pub(crate) use must;
+pub(crate) use pair_list;
 
 // A guide whose rows stand in a table. Its meaning stands here too: the impl of Guide is written by the functions below, so they cannot ask for it.
 pub(crate) trait Tabled {
@@ -93,7 +130,7 @@ pub(crate) trait Tabled {
 fn is_among(codes: &[&[u8]], value: &[u8]) -> bool
     ensures { result ≡ list_any (λ c. bytes_eq value.now c.now) codes.now }
 {
-    codes.contains(&value)
+    codes.iter().any(|code| *code == value)
 }
 
 // Whether the value is one of the codes, or there are none.
@@ -111,28 +148,64 @@ impl TableRow {
     {
         mark.name == self.name && is_admitted(self.placing, mark.first)
     }
+}
 
-    // The element with this number, if it has a rule.
-    fn element(&self, number: u8) -> Option<&'static Element>
-        ensures { option_copied result ≡ find (λ e. number == e.number) self.now.elements.now }
+impl Elements {
+    // Where an element with this number has to stand: as many bits lie below it.
+    #[tactic(auto, using(crate::proofs::Bits::place_is))]
+    fn place(&self, number: u8) -> usize
+        ensures { result ≡ place_of self.now.named number }
     {
-        self.elements
-            .iter()
-            .find(|element| element.number == number)
+        self.named
+            .wrapping_shl(32 - u32::from(number) % 32)
+            .count_ones() as usize
     }
 
-    // Whether a pair rule asks for b where a is filled.
-    fn pairs(&self, a: u8, b: u8) -> bool
-        ensures { result ≡ list_any (λ p. (a == p.0) && b == p.1) self.now.pairs.now }
+    // The element that stands there.
+    #[tactic(auto, using(std::proofs::lemmas::Option::gets))]
+    fn at_place(&self, number: u8) -> Option<&'static Element>
+        ensures { option_copied result ≡ slice_get self.now.list.now (place_of self.now.named number) }
     {
-        self.pairs.contains(&(a, b))
+        self.list.get(self.place(number))
+    }
+
+    // The element with this number, if it has a rule.
+    #[tactic(auto, using(crate::proofs::Bits::there, crate::proofs::Bits::another_there, crate::proofs::Bits::none_there))]
+    fn find(&self, number: u8) -> Option<&'static Element>
+        requires { are_placed self.now.named 0 self.now.list.now ≡ true }
+        ensures { option_copied result ≡ find (λ e. number == e.number) self.now.list.now }
+    {
+        match self.at_place(number) {
+            Some(element) if element.number == number => Some(element),
+            _ => None,
+        }
+    }
+}
+
+// Whether the bit of the number is set.
+fn has_bit(bits: u32, number: u8) -> bool
+    ensures { result ≡ has_bit bits number }
+{
+    (bits >> (number % 32)) % 2 == 1
+}
+
+impl PairRules {
+    // Whether a pair rule asks for b where a is filled.
+    #[tactic(auto, using(crate::proofs::Bits::no_first))]
+    fn has(&self, a: u8, b: u8) -> bool
+        requires { are_marked self.now.firsts self.now.seconds self.now.list.now ≡ true }
+        ensures { result ≡ list_any (λ p. (a == p.0) && b == p.1) self.now.list.now }
+    {
+        has_bit(self.firsts, a) && self.list.iter().any(|pair| pair.0 == a && pair.1 == b)
     }
 
     // Whether any pair rule asks for b.
-    fn is_paired(&self, b: u8) -> bool
-        ensures { result ≡ list_any (λ p. nat_eq b p.1) self.now.pairs.now }
+    #[tactic(auto, using(crate::proofs::Bits::no_second))]
+    fn ask_for(&self, b: u8) -> bool
+        requires { are_marked self.now.firsts self.now.seconds self.now.list.now ≡ true }
+        ensures { result ≡ list_any (λ p. nat_eq b p.1) self.now.list.now }
     {
-        self.pairs.iter().any(|pair| pair.1 == b)
+        has_bit(self.seconds, b) && self.list.iter().any(|pair| pair.1 == b)
     }
 }
 
@@ -145,10 +218,11 @@ fn row_in(rows: &'static [TableRow], n: u8) -> Option<&'static TableRow>
 }
 
 // The row of the guide's table with this number.
-#[tactic(auto, using(crate::proofs::Rows::told_lem, crate::proofs::Rows::stands_lem))]
+#[tactic(auto, using(crate::proofs::Rows::told_lem, crate::proofs::Rows::stands_lem, crate::proofs::Rows::kept_lem))]
 fn row_at<T: Tabled>(guide: &T, n: u8) -> Option<&'static TableRow>
     ensures told { over (λ r. r.now.told) result ≡ row_of (T.meaning guide.now) n }
     ensures stands { over (λ r. standing_meant r.now) result ≡ row_at (T.meaning guide.now) n }
+    ensures kept { IfSome result (λ r. is_kept r.now ≡ true) }
 {
     row_in(guide.rows(), n)
 }
@@ -172,11 +246,11 @@ pub(crate) fn fits<T: Tabled>(guide: &T, n: u8, mark: Mark<'_>) -> bool
 }
 
 // The element of the row that has a rule.
-#[tactic(auto, using(crate::proofs::Rows::element_lem))]
+#[tactic(auto, using(crate::proofs::Rows::element_lem, crate::proofs::Rows::parts_of))]
 fn element_at<T: Tabled>(guide: &T, n: u8, number: u8) -> Option<&'static Element>
     ensures { over (λ e. element_meant e.now) result ≡ element_at (T.meaning guide.now) n number }
 {
-    row_at(guide, n)?.element(number)
+    row_at(guide, n)?.elements.find(number)
 }
 
 pub(crate) fn rule<T: Tabled>(guide: &T, n: u8, number: u8) -> Option<Rule>
@@ -192,14 +266,22 @@ pub(crate) fn is_code<T: Tabled>(guide: &T, n: u8, number: u8, value: &[u8]) -> 
     element_at(guide, n, number).is_some_and(|element| is_admitted(element.codes, value))
 }
 
+#[tactic(auto, using(crate::proofs::Rows::parts_of))]
 pub(crate) fn pairs<T: Tabled>(guide: &T, n: u8, a: u8, b: u8) -> bool
     ensures { result ≡ pairs_in (T.meaning guide.now) n a b }
 {
-    row_at(guide, n).is_some_and(|row| row.pairs(a, b))
+    match row_at(guide, n) {
+        Some(row) => row.pairs.has(a, b),
+        None => false,
+    }
 }
 
+#[tactic(auto, using(crate::proofs::Rows::parts_of))]
 pub(crate) fn paired<T: Tabled>(guide: &T, n: u8, b: u8) -> bool
     ensures { result ≡ paired_to (T.meaning guide.now) n b }
 {
-    row_at(guide, n).is_some_and(|row| row.is_paired(b))
+    match row_at(guide, n) {
+        Some(row) => row.pairs.ask_for(b),
+        None => false,
+    }
 }

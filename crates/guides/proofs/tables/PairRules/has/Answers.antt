@@ -1,0 +1,8 @@
+use Rattle.std.proofs.Common.{sym, ◌∙◌}
+use Rattle.guides.proofs.Bits.{no_first}
+use Rattle.guides.proofs.tables.PairRules.has.Goals as goal
+
+pub returns-else-has_bit : goal.returns-else-has_bit
+returns-else-has_bit c =
+    let s = c.args.self.now in
+    c.if-has_bit.false ∙ sym (no_first s.firsts s.seconds c.args.a c.args.b s.list.now c.requires (sym c.has_bit.ensures ∙ c.if-has_bit.false))
