@@ -57,7 +57,8 @@ impl<'a, G: Guide> Subject<'a, G> {
             && is_filled(self.segment.bytes_of(usize::from(other)))
     }
 
-    // Whether a pair rule asks that the element is filled: one whose other element is filled.
+    // Whether a pair rule asks that the element is filled: one whose other element is filled. Inlined, since for most elements the first question answers.
+    #[inline(always)]
     fn is_asked(&self, element: u8) -> bool
         ensures { result ≡ asks_for (G.meaning self.now.guide.now) self.now.segment.separator self.now.row (plain self.now.segment) element }
     {
@@ -73,7 +74,8 @@ impl<'a, G: Guide> Subject<'a, G> {
         false
     }
 
-    // The fault of an element that a rule may name, which stands there.
+    // The fault of an element that a rule may name, which stands there. Inlined, as its caller is: a call would write its answer to memory for each element.
+    #[inline(always)]
     fn check_named(&self, element: u8, at: Site, part: &[u8]) -> Result<(), ElementFault>
         ensures { Answers cause_of_element result (first_of at.segment at.element at.place (tests_with (G.meaning self.now.guide.now) self.now.segment.separator self.now.row (plain self.now.segment) element part.now)) }
     {
@@ -100,6 +102,7 @@ impl<'a, G: Guide> Subject<'a, G> {
     }
 
     // The fault of an element of the segment. Past the limit no rule names it.
+    #[inline(always)]
     fn check_element(&self, element: Element<'_>) -> Result<(), ElementFault>
         ensures { Answers cause_of_element result (element_check (G.meaning self.now.guide.now) self.now.segment.separator self.now.segment.number self.now.row (plain self.now.segment) element.entry.number (element.entry.place, element.entry.bytes.now)) }
     {

@@ -41,7 +41,8 @@ impl<'a, G: Guide> Subject<'a, G> {
     }
 
     // The rule of an element, of the envelope or of the guide. A match here and below, and no table of functions: the arms ask the guide for different
-    // values.
+    // values. Inlined, since a call would write the rule to memory for each element.
+    #[inline(always)]
     pub(crate) fn rule(&self, element: u8) -> Option<Rule>
         ensures { result ≡ limits_at (G.meaning self.now.guide.now) self.now.row element }
     {
