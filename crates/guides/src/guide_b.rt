@@ -249,6 +249,7 @@ impl Guide for GuideB {
         tables::row(self, n)
     }
 
+    #[inline(always)]
     fn fits(&self, n: u8, mark: Mark<'_>) -> bool {
         tables::fits(self, n, mark)
     }

@@ -199,6 +199,7 @@ impl Guide for GuideM {
         tables::row(self, n)
     }
 
+    #[inline(always)]
     fn fits(&self, n: u8, mark: Mark<'_>) -> bool {
         tables::fits(self, n, mark)
     }

@@ -169,6 +169,7 @@ impl Guide for GuideOdd {
         tables::row(self, n)
     }
 
+    #[inline(always)]
     fn fits(&self, n: u8, mark: Mark<'_>) -> bool {
         tables::fits(self, n, mark)
     }

@@ -235,6 +235,8 @@ pub(crate) fn row<T: Tabled>(guide: &T, n: u8) -> Option<Row>
     row_at(guide, n).map(|row| row.told)
 }
 
+// Inlined, since a row is searched for each segment and most rows do not fit.
+#[inline(always)]
 pub(crate) fn fits<T: Tabled>(guide: &T, n: u8, mark: Mark<'_>) -> bool
     ensures { result ≡ fits_row (T.meaning guide.now) n mark.entry.name.now mark.entry.first.now }
 {
